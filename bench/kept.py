@@ -1,7 +1,8 @@
 #!/usr/bin/env python3
 """Kept runs on real files: processes killed, files cut and damaged, calls that fail, and what a step costs.
 
-Usage: bench/kept.py [PART ..] [--count COUNT] [--seed SEED] [--folder FOLDER]     PART: kills, cuts, damage, faults, speed; without one all
+Usage: bench/kept.py [PART ..] [--count COUNT] [--seed SEED] [--folder FOLDER]     PART: kills, cuts, damage, faults, calls, two, speed; without
+one all
 
 kills    a session of 16,384 lines, with flowkeep killed (by SIGKILL) at 2,000 random moments and called again with the lines that the
          file has not: after each kill the file keeps every step whose reply was written, and a front of the session's history
@@ -10,6 +11,10 @@ damage   10,000 files with one byte changed, of sessions with entries of all kin
          say, or refused at the first that is foreign, and then left as it was. `flow drive` says what is legal
 faults   every open, read, write and sync made to fail in turn, by failing.c: the status, the line, and that the file keeps every step
          whose reply was written; and reads and writes of a few bytes each: the usual answer
+calls    every system call on the file and its folder, as strace tells them (`apt-get update && apt-get install -y strace`): the file is
+         opened without being cut off, locked, and its folder synced where it is empty; then a sync, and a read a record; and of each
+         entry a write, a sync, a write and a sync, at their places: these calls, in this order, and no other
+two      a second process on a file that a first one has is refused, leaves the file alone, and opens it once the first has ended
 speed    by turns: the microseconds of a kept step, and of a transaction of SQLite with a sync each, in its default journal and with a
          write-ahead log; and the seconds and megabytes in which a file of 1,000,000 records is opened and its report written
 
@@ -20,6 +25,7 @@ import argparse
 import os
 import pathlib
 import random
+import re
 import signal
 import sqlite3
 import statistics
@@ -256,6 +262,88 @@ def try_faults(folder, shim):
     print("faults:", ", ".join(f"{count} of {kind}" for kind, count in counts.items()))
 
 
+# the calls of the system, each by what it does to the file: its place, how many bytes were asked for, and how many came
+TRACED = "open,openat,flock,fcntl,pread64,pwrite64,fdatasync,fsync,ftruncate,truncate,rename,renameat,renameat2,unlink,unlinkat"
+
+
+def calls_on(path, workflow, lines):
+    """Calls flowkeep under strace, and gives the calls on the file and its folder."""
+    trace, names, calls = path.with_suffix(".trace"), {}, []
+    subprocess.run(["strace", "-f", "-o", str(trace), "-e", f"trace={TRACED}", KEEP, str(path)], input=source_of(workflow, lines),
+                   capture_output=True, check=False)
+    for line in trace.read_text().splitlines():
+        found = re.match(r"\d+ +(\w+)\((.*)\) += (-?\d+)", line)
+        if not found:
+            continue
+        name, words, came = found[1], found[2], int(found[3])
+        if name in ("open", "openat"):
+            opened = re.search(r'"([^"]*)", ([A-Z_|]+)', words)
+            names[came] = {str(path): "file", str(path.parent): "folder"}.get(opened[1])
+            if names[came]:
+                calls.append(f"open {names[came]} {opened[2].replace('|O_CLOEXEC', '')}")
+            continue
+        number, *rest = words.split(", ")
+        which = names.get(int(number)) if number.isdigit() else None
+        if which and name in ("pread64", "pwrite64"):
+            calls.append(f"{name[:-2]} {rest[-2]} at {rest[-1]}: {came}")
+        elif which and name != "fcntl":
+            calls.append(" ".join([name, which, *rest]))
+    return calls
+
+
+OPENED = ["open file O_RDWR|O_CREAT", "flock file LOCK_EX|LOCK_NB"]
+FOLDER = ["open folder O_RDONLY", "fsync folder"]
+SYNC = "fdatasync file"
+
+
+def calls_of_first(entries):
+    """What a session of so many entries asks of a file that is not there."""
+    calls = [*OPENED, *FOLDER, SYNC, "pread 17 at 0: 0", "pread 1 at 0: 0", "pwrite 1 at 0: 1", SYNC]
+    for at in range(0, RECORD * entries, RECORD):
+        calls += [f"pwrite {RECORD} at {at + 1}: {RECORD}", SYNC, f"pwrite 1 at {at}: 1", SYNC]
+    return calls
+
+
+def calls_of_next(entries):
+    """What a session of no line asks of a file that keeps so many entries."""
+    end = RECORD * entries
+    reads = [f"pread 17 at {at}: 17" for at in range(0, end, RECORD)]
+    return [*OPENED, SYNC, *reads, f"pread 17 at {end}: 1", f"pread 16 at {end + 1}: 0", f"pread 1 at {end}: 1"]
+
+
+def try_calls(folder):
+    count = 0
+    for name, (workflow, session) in SESSIONS.items():
+        path, lines = folder / f"{name}.called", session.split("/")
+        entries = len(driven(workflow, lines))
+        for what, lines, expected in (("first", lines, calls_of_first(entries)), ("next", [], calls_of_next(entries))):
+            calls = calls_on(path, workflow, lines)
+            count += len(calls)
+            for place in range(max(len(calls), len(expected))):
+                if calls[place:place + 1] != expected[place:place + 1]:
+                    wrong(f"{name}, {what} call: {calls[place:place + 1]} in place of {expected[place:place + 1]}, the call {place}")
+                    break
+    print(f"calls: {count} of the system, as they must be")
+
+
+def try_two(folder):
+    lines, path = retries(16_384), folder / "two.keep"
+    with tempfile.TemporaryFile() as source:
+        source.write(source_of(RETRIED, lines))
+        source.seek(0)
+        # its answer is more than the pipe holds, so it waits, and has the file
+        first = subprocess.Popen([KEEP, str(path)], stdin=source, stdout=subprocess.PIPE, stderr=subprocess.DEVNULL)
+    first.stdout.read(6)
+    time.sleep(1)
+    kept = path.read_bytes()
+    if kept_by(path, RETRIED, [])[:2] != (8, b"refused: open\n") or path.read_bytes() != kept:
+        wrong("two: the second process was not refused, or changed the file")
+    first.stdout.read()
+    first.wait()
+    must_open("two, once the first has ended", path, RETRIED, driven(RETRIED, lines))
+    print("two: the second process is refused while the first has the file")
+
+
 def entries_of(replies):
     """The replies that tell of an entry."""
     return [reply for reply in replies if reply.split()[0] in ("claim", "did", "done", "failed", "late", "rewound", "committed")]
@@ -323,7 +411,7 @@ def main():
     words.add_argument("--seed", type=int, default=1)
     words.add_argument("--folder", default="/tmp")
     words = words.parse_args()
-    parts = words.parts or ["kills", "cuts", "damage", "faults", "speed"]
+    parts = words.parts or ["kills", "cuts", "damage", "faults", "calls", "two", "speed"]
     with tempfile.TemporaryDirectory(dir=words.folder) as made:
         folder = pathlib.Path(made)
         if "kills" in parts:
@@ -336,6 +424,10 @@ def main():
             shim = str(folder / "failing.so")
             subprocess.run(["cc", "-shared", "-fPIC", "-O1", "-o", shim, str(TOP / "bench/failing.c")], check=True)
             try_faults(folder, shim)
+        if "calls" in parts:
+            try_calls(folder)
+        if "two" in parts:
+            try_two(folder)
         if "speed" in parts:
             try_speed(folder)
     return 1 if WRONG else 0

@@ -66,7 +66,7 @@ _flowkeep() {
     COMPREPLY=()
     [[ $before == --* || $before == '=' || $word == '=' ]] && return
     if [[ $word == -* ]]; then
-        mapfile -t COMPREPLY < <(compgen -W "$(_flow_unused --steps)" -- "$word")
+        mapfile -t COMPREPLY < <(compgen -W "$(_flow_unused --steps --help)" -- "$word")
     else
         _flow_files "$word"
     fi

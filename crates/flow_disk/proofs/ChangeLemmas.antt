@@ -6,7 +6,7 @@ use Rattle.std.proofs.lemmas.List.{take_at, drop_at, take_all, take-append-le, d
 use Rattle.std.proofs.lemmas.Option.{same_Some}
 use Rattle.flow_disk.specs.declared.change.Change.{Change}
 use Rattle.flow_disk.specs.declared.change.Change.TheVariants.{Wrote, Tore, Synced}
-use Rattle.flow_disk.specs.Disk.{Torn, Passes, NoSync, SyncsNow, Same}
+use Rattle.flow_disk.specs.Disk.{Torn, MayTear, Passes, NoSync, SyncsNow, Same}
 use Rattle.flow_disk.specs.Change.{FileState, written, changed, changed_all, state_at, IsImage, IsImageOf, IsSyncAt, taken, all_within, Replays}
 
 -- a write that went through is one of its images
@@ -196,6 +196,10 @@ module _ (first pool pool' more shown : List ℕ) (log log' : List Change) (chan
       Passes (length log) (length log') (λ t c. IsImageOf (state_at first pool log t) c) (λ t c. IsImageOf (state_at first pool' log' t) c) (Torn at n)
   passes_range at n is = passes_by (Torn at n) (torn_same at n) (λ c i. subst (λ p. p c) (is (with_more last more)) i)
 
+  pub tears_range : (at n : ℕ) → ((s : FileState) → IsImageOf (changed s change) ≡ IsImage s.durable ((at, n) ∷ s.ranges)) →
+      MayTear at n (λ c. IsImageOf last c) (λ c. IsImageOf (state_at first pool' log' (length log')) c)
+  tears_range at n is d c i torn = subst (λ s. IsImageOf s c) (sym now_is) (subst (λ (p : List ℕ → Type 0). p c) (sym (is (with_more last more))) (d, i, torn))
+
   sync_kept : (t : ℕ) → t ≤ length log → IsSyncAt log t → IsSyncAt log' t
   sync_kept zero le s = s
   sync_kept (suc t) le s = subst (λ (l : List Change). slice_get l t ≡ Some Synced) (sym pushed) (get_early t log change (omega (arith, le)) ∙ s)
@@ -233,6 +237,9 @@ module _ (first pool pool' shown bytes : List ℕ) (log log' : List Change) (at 
   pub wrote_passes : Passes (length log) (length log') (λ t c. IsImageOf (state_at first pool log t) c) (λ t c. IsImageOf (state_at first pool' log' t) c) (Torn at n)
   wrote_passes = passes_range first pool pool' bytes shown log log' (Wrote at n) replays grown pushed at n (λ s. refl)
 
+  pub wrote_tears : MayTear at n (λ c. IsImageOf (state_at first pool log (length log)) c) (λ c. IsImageOf (state_at first pool' log' (length log')) c)
+  wrote_tears = tears_range first pool pool' bytes shown log log' (Wrote at n) replays grown pushed at n (λ s. refl)
+
   pub wrote_no_sync : NoSync (length log) (length log') (IsSyncAt log) (IsSyncAt log')
   wrote_no_sync = no_sync first pool pool' bytes shown log log' (Wrote at n) replays grown pushed (λ e. cc)
 
@@ -254,6 +261,9 @@ module _ (first pool shown : List ℕ) (log log' : List Change) (replays : Repla
   module _ (at n : ℕ) (within : at ≤ length shown) (pushed : log' ≡ log ++ Tore at n ∷ []) where
     pub tore_passes : Passes (length log) (length log') (λ t c. IsImageOf (state_at first pool log t) c) (λ t c. IsImageOf (state_at first pool log' t) c) (Torn at n)
     tore_passes = passes_range first pool pool [] shown log log' (Tore at n) replays none pushed at n (λ s. refl)
+
+    pub tore_tears : MayTear at n (λ c. IsImageOf (state_at first pool log (length log)) c) (λ c. IsImageOf (state_at first pool log' (length log')) c)
+    tore_tears = tears_range first pool pool [] shown log log' (Tore at n) replays none pushed at n (λ s. refl)
 
     pub tore_no_sync : NoSync (length log) (length log') (IsSyncAt log) (IsSyncAt log')
     tore_no_sync = no_sync first pool pool [] shown log log' (Tore at n) replays none pushed (λ e. cc)

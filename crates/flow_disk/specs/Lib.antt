@@ -3,3 +3,4 @@ pub mod Change
 pub mod ChangeLog
 pub mod MemDisk
 pub mod Replay
+pub mod FileDisk

@@ -1,5 +1,5 @@
 -- What can be said of a file in memory: what every disk tells, how its calls are counted, and what it has room for.
-use Rattle.std.specs.Prelude.{◌≡◌, ℕ, ◌+◌, ◌<◌, ◌≤◌, List, length}
+use Rattle.std.specs.Prelude.{◌≡◌, ℕ, ◌+◌, ◌<◌, ◌≤◌, List, length, Bool, true, false, Option, Some, None}
 use Rattle.flow_disk.specs.ChangeLog as Log
 use Rattle.flow_disk.specs.declared.mem_disk.MemDisk.{MemDisk}
 
@@ -17,6 +17,18 @@ synced_of disk = Log.syncs_of disk.log
 
 abbrev pub faults_of : MemDisk → ℕ
 faults_of disk = disk.calls.faults
+
+-- the number of the only file there is
+abbrev pub the_file : ℕ
+the_file = 0
+
+-- the only file, where it is chosen
+abbrev pub if_chosen : Bool → Option ℕ
+if_chosen true = Some the_file
+if_chosen false = None
+
+abbrev pub chosen_of : MemDisk → Option ℕ
+chosen_of disk = if_chosen disk.chosen
 
 -- the image now with the same byte wherever was written since the last sync
 abbrev pub filled_of : MemDisk → ℕ → List ℕ

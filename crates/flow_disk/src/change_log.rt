@@ -1,6 +1,6 @@
 ghost use Rattle.std.specs.Prelude.{◌≡◌, [], ◌∷◌, ◌++◌, ◌+◌, ◌-◌, ◌<◌, ◌≤◌, ◌↔◌, length, vec_len, vec_capacity, IsTrue, IsOk, IfOk, OnOk};
 ghost use Rattle.flow_disk.specs.Change.{Replays, written};
-ghost use Rattle.flow_disk.specs.Disk.{Torn, Passes, NoSync, SyncsNow, Same};
+ghost use Rattle.flow_disk.specs.Disk.{Torn, MayTear, Passes, NoSync, SyncsNow, Same};
 
 use crate::change::Change;
 use crate::replay::{Replay, put};
@@ -74,6 +74,7 @@ impl ChangeLog {
         ensures places { vec_capacity self.new.changes ≡ vec_capacity self.old.changes }
         ensures crash { Passes (moment_of self.old) (moment_of self.new) (images_of self.old) (images_of self.new) (Torn at (length bytes.now)) }
         ensures syncs { NoSync (moment_of self.old) (moment_of self.new) (syncs_of self.old) (syncs_of self.new) }
+        ensures torn { MayTear at (length bytes.now) (images_of self.old (moment_of self.old)) (images_of self.new (moment_of self.new)) }
     {
         self.pool.extend_from_slice(bytes).unwrap();
         put(&mut self.shown, at, bytes).unwrap();
@@ -96,6 +97,8 @@ impl ChangeLog {
         ensures places { vec_capacity self.new.changes ≡ vec_capacity self.old.changes }
         ensures crash { Passes (moment_of self.old) (moment_of self.new) (images_of self.old) (images_of self.new) (Torn at count) }
         ensures syncs { NoSync (moment_of self.old) (moment_of self.new) (syncs_of self.old) (syncs_of self.new) }
+        ensures torn { vec_len self.old.changes < vec_capacity self.old.changes
+            → MayTear at count (images_of self.old (moment_of self.old)) (images_of self.new (moment_of self.new)) }
     {
         if self.changes.len() < self.changes.capacity() {
             self.changes.push_reserved(Change::Tore { at, count });

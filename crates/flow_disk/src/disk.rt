@@ -1,4 +1,4 @@
-ghost use Rattle.std.specs.Prelude.{◌≡◌, ℕ, ◌-◌, ◌^◌, ◌<◌, ◌≤◌, List, length, IfOk, OnOk, MatchResult};
+ghost use Rattle.std.specs.Prelude.{◌≡◌, ℕ, ◌-◌, ◌^◌, ◌<◌, ◌≤◌, List, length, Option, Some, None, IfOk, OnOk, MatchResult};
 ghost use Rattle.flow_disk.specs.Disk.{Holds, Gives, Torn, Same, Passes, SyncsNow, NoSync, CountsFault, Rests};
 
 /// A call of a disk that failed. What failed, and whether it would go better a second time, is not told.
@@ -25,10 +25,17 @@ pub trait Disk {
     // How many calls have failed.
     ghost faults: { Self → ℕ };
 
-    /// Chooses the file of that path.
+    // The number of the file that a path leads to. Several paths may lead to one file.
+    ghost file_at: { List ℕ → ℕ };
+
+    // The number of the file that is chosen, if one is.
+    ghost chosen: { Self → Option ℕ };
+
+    /// Chooses the file of that path. Where it fails, none is chosen.
     fn open(&mut self, path: &str) -> Result<(), DiskFailed>
         requires { faults self.old < 2 ^ 64 - 1 }
         ensures cause { CountsFault (faults self.old) (faults self.new) result }
+        ensures chooses { MatchResult result (λ v. chosen self.new ≡ Some (file_at path.now)) (λ e. chosen self.new ≡ None) }
         ensures rests { tells → Rests (moment self.old) (moment self.new) (seen self.old) (seen self.new)
             (image self.old) (image self.new) (synced self.old) (synced self.new) }
         ensures own { tells → image self.new (moment self.new) (seen self.new) };
@@ -37,6 +44,7 @@ pub trait Disk {
     fn len(&mut self) -> Result<u64, DiskFailed>
         requires { faults self.old < 2 ^ 64 - 1 }
         ensures cause { CountsFault (faults self.old) (faults self.new) result }
+        ensures same_file { chosen self.new ≡ chosen self.old }
         ensures rests { tells → Rests (moment self.old) (moment self.new) (seen self.old) (seen self.new)
             (image self.old) (image self.new) (synced self.old) (synced self.new) }
         ensures own { tells → image self.new (moment self.new) (seen self.new) }
@@ -47,6 +55,7 @@ pub trait Disk {
     fn read_at(&mut self, at: u64, buf: &mut [u8]) -> Result<usize, DiskFailed>
         requires { faults self.old < 2 ^ 64 - 1 }
         ensures cause { CountsFault (faults self.old) (faults self.new) result }
+        ensures same_file { chosen self.new ≡ chosen self.old }
         ensures rests { tells → Rests (moment self.old) (moment self.new) (seen self.old) (seen self.new)
             (image self.old) (image self.new) (synced self.old) (synced self.new) }
         ensures own { tells → image self.new (moment self.new) (seen self.new) }
@@ -59,6 +68,7 @@ pub trait Disk {
         requires counts { faults self.old < 2 ^ 64 - 1 }
         requires within { tells → at ≤ length (seen self.old) }
         ensures cause { CountsFault (faults self.old) (faults self.new) result }
+        ensures same_file { chosen self.new ≡ chosen self.old }
         ensures written { tells → OnOk result (Holds (seen self.old) at bytes.now (seen self.new)) }
         ensures crash { tells → Passes (moment self.old) (moment self.new) (image self.old) (image self.new)
             (Torn at (length bytes.now)) }
@@ -69,6 +79,7 @@ pub trait Disk {
     fn sync(&mut self) -> Result<(), DiskFailed>
         requires { faults self.old < 2 ^ 64 - 1 }
         ensures cause { CountsFault (faults self.old) (faults self.new) result }
+        ensures same_file { chosen self.new ≡ chosen self.old }
         ensures seen { tells → seen self.new ≡ seen self.old }
         ensures crash { tells → Passes (moment self.old) (moment self.new) (image self.old) (image self.new) Same }
         ensures syncs { tells → MatchResult result

@@ -1,4 +1,4 @@
-ghost use Rattle.std.specs.Prelude.{◌≡◌, ◌≤◌, ◌<◌, ◌-◌, ◌^◌, length, IfOk, Ok};
+ghost use Rattle.std.specs.Prelude.{◌≡◌, ◌↔◌, ◌≤◌, ◌<◌, ◌-◌, ◌^◌, length, Some, None, IfOk, IsErr, MatchResult, Ok};
 ghost use Rattle.flow_disk.specs.Disk.{CountsFault};
 
 use crate::disk::{Disk, DiskFailed};
@@ -52,21 +52,28 @@ fn open_alone<R: Files<File = File>>(rt: &R, path: &str) -> io::Result<File> {
     Ok(file)
 }
 
-fn len_of(file: io::Result<&File>) -> io::Result<u64> {
+fn len_of(file: io::Result<&File>) -> io::Result<u64>
+    ensures { IsErr file.entry → IsErr result }
+{
     Ok(file?.metadata()?.len())
 }
 
 fn read_from(file: io::Result<&File>, at: u64, buf: &mut [u8]) -> io::Result<usize>
-    ensures { IfOk result (λ count. count ≤ length buf.new) }
+    ensures fits { IfOk result (λ count. count ≤ length buf.new) }
+    ensures fails { IsErr file.entry → IsErr result }
 {
     file?.read_at(buf, at)
 }
 
-fn write_to(file: io::Result<&File>, at: u64, bytes: &[u8]) -> io::Result<()> {
+fn write_to(file: io::Result<&File>, at: u64, bytes: &[u8]) -> io::Result<()>
+    ensures { IsErr file.entry → IsErr result }
+{
     file?.write_all_at(bytes, at)
 }
 
-fn sync_of(file: io::Result<&File>) -> io::Result<()> {
+fn sync_of(file: io::Result<&File>) -> io::Result<()>
+    ensures { IsErr file.entry → IsErr result }
+{
     file?.sync_data()
 }
 
@@ -75,6 +82,7 @@ fn counted<T: Drop>(faults: &mut u64, came: io::Result<T>) -> Result<T, DiskFail
     requires { faults.old < 2 ^ 64 - 1 }
     ensures cause { CountsFault faults.old faults.new result }
     ensures value { IfOk result (λ value. came ≡ Ok value) }
+    ensures failed { IsErr result ↔ IsErr came }
 {
     match came {
         Ok(value) => Ok(value),
@@ -86,9 +94,12 @@ fn counted<T: Drop>(faults: &mut u64, came: io::Result<T>) -> Result<T, DiskFail
 }
 
 impl<'a, R: Files<File = File>> FileDisk<'a, R> {
+    ghost use Rattle.flow_disk.specs.FileDisk.{IsShut};
+
     /// A disk on which no file is open. No call has failed yet.
     pub fn new(rt: &'a R) -> FileDisk<'a, R>
-        ensures { ⟦<FileDisk<'a, R> as Disk>⟧.faults result ≡ 0 }
+        ensures faults { ⟦<FileDisk<'a, R> as Disk>⟧.faults result ≡ 0 }
+        ensures shut { IsShut result }
     {
         FileDisk {
             rt,
@@ -99,7 +110,9 @@ impl<'a, R: Files<File = File>> FileDisk<'a, R> {
     }
 
     /// The file, where one is open and no sync of it failed.
-    fn opened(&self) -> io::Result<&File> {
+    fn opened(&self) -> io::Result<&File>
+        ensures { IsShut self.now → IsErr result }
+    {
         if self.lost {
             return Err(no_plain_file());
         }
@@ -107,8 +120,10 @@ impl<'a, R: Files<File = File>> FileDisk<'a, R> {
     }
 }
 
+// Where no file is open, or a sync of it failed, every call but `open` fails, and leaves it so.
 impl<'a, R: Files<File = File>> Disk for FileDisk<'a, R> {
     ghost use Rattle.std.specs.Prelude.{[]};
+    ghost use Rattle.flow_disk.specs.FileDisk.{IsShut, the_file, chosen_of};
 
     ghost tells = { ⊥ };
 
@@ -122,7 +137,17 @@ impl<'a, R: Files<File = File>> Disk for FileDisk<'a, R> {
 
     ghost faults = { λ disk. disk.faults };
 
-    fn open(&mut self, path: &str) -> Result<(), DiskFailed> {
+    // nothing is told of which paths lead to one file
+    ghost file_at = { λ _. the_file };
+
+    ghost chosen = { λ disk. chosen_of disk.file };
+
+    fn open(&mut self, path: &str) -> Result<(), DiskFailed>
+        requires { self.old.faults < 2 ^ 64 - 1 }
+        ensures cause { CountsFault self.old.faults self.new.faults result }
+        ensures chooses { MatchResult result (λ v. chosen_of self.new.file ≡ Some the_file) (λ e. chosen_of self.new.file ≡ None) }
+        ensures shut { IsErr result → IsShut self.new }
+    {
         // A file that is open already gives back its lock first: the path may name the same one.
         self.file = None;
         let file = counted(&mut self.faults, open_alone(self.rt, path))?;
@@ -131,22 +156,47 @@ impl<'a, R: Files<File = File>> Disk for FileDisk<'a, R> {
         Ok(())
     }
 
-    fn len(&mut self) -> Result<u64, DiskFailed> {
+    fn len(&mut self) -> Result<u64, DiskFailed>
+        requires { self.old.faults < 2 ^ 64 - 1 }
+        ensures cause { CountsFault self.old.faults self.new.faults result }
+        ensures same_file { self.new.file ≡ self.old.file }
+        ensures fails { IsShut self.old → IsErr result }
+        ensures shut { IsShut self.old → IsShut self.new }
+    {
         let len = len_of(self.opened());
         counted(&mut self.faults, len)
     }
 
-    fn read_at(&mut self, at: u64, buf: &mut [u8]) -> Result<usize, DiskFailed> {
+    fn read_at(&mut self, at: u64, buf: &mut [u8]) -> Result<usize, DiskFailed>
+        requires { self.old.faults < 2 ^ 64 - 1 }
+        ensures cause { CountsFault self.old.faults self.new.faults result }
+        ensures same_file { self.new.file ≡ self.old.file }
+        ensures fits { IfOk result (λ n. n ≤ length buf.new) }
+        ensures fails { IsShut self.old → IsErr result }
+        ensures shut { IsShut self.old → IsShut self.new }
+    {
         let count = read_from(self.opened(), at, buf);
         counted(&mut self.faults, count)
     }
 
-    fn write_at(&mut self, at: u64, bytes: &[u8]) -> Result<(), DiskFailed> {
+    fn write_at(&mut self, at: u64, bytes: &[u8]) -> Result<(), DiskFailed>
+        requires { self.old.faults < 2 ^ 64 - 1 }
+        ensures cause { CountsFault self.old.faults self.new.faults result }
+        ensures same_file { self.new.file ≡ self.old.file }
+        ensures fails { IsShut self.old → IsErr result }
+        ensures shut { IsShut self.old → IsShut self.new }
+    {
         let written = write_to(self.opened(), at, bytes);
         counted(&mut self.faults, written)
     }
 
-    fn sync(&mut self) -> Result<(), DiskFailed> {
+    fn sync(&mut self) -> Result<(), DiskFailed>
+        requires { self.old.faults < 2 ^ 64 - 1 }
+        ensures cause { CountsFault self.old.faults self.new.faults result }
+        ensures same_file { self.new.file ≡ self.old.file }
+        ensures fails { IsShut self.old → IsErr result }
+        ensures shut { IsErr result → IsShut self.new }
+    {
         let synced = sync_of(self.opened());
         self.lost = synced.is_err();
         counted(&mut self.faults, synced)

@@ -1,4 +1,4 @@
-ghost use Rattle.std.specs.Prelude.{◌≡◌, List, ℕ, false, ◌+◌, ◌-◌, ◌^◌, ◌≤◌, ◌<◌, ◌↔◌, ◌⊎◌, length, vec_len, vec_capacity, IfOk, OnOk, IsErr, MatchResult, IsTrue};
+ghost use Rattle.std.specs.Prelude.{◌≡◌, List, ℕ, false, ◌+◌, ◌-◌, ◌^◌, ◌≤◌, ◌<◌, ◌↔◌, ◌⊎◌, length, vec_len, vec_capacity, Some, None, IfOk, OnOk, IsErr, MatchResult, IsTrue};
 
 use crate::calls::Calls;
 use crate::change_log::ChangeLog;
@@ -11,8 +11,9 @@ use std::alloc::{AllocError, Global};
 pub struct MemDisk {
     log: ChangeLog,
     calls: Calls,
-    // a place for each call that may still succeed
-    ghost places: { vec_len log.changes + (calls.stop_at - (calls.succeeded + calls.faults)) ≤ vec_capacity log.changes },
+    chosen: bool,
+    // a place for each call that may still succeed, and for the first that comes too late
+    ghost places: { vec_len log.changes + (calls.stop_at + 1 - (calls.succeeded + calls.faults)) ≤ vec_capacity log.changes },
 }
 
 impl MemDisk {
@@ -43,7 +44,11 @@ impl MemDisk {
             faults: 0,
             stop_at,
         };
-        Ok(MemDisk { log, calls })
+        Ok(MemDisk {
+            log,
+            calls,
+            chosen: false,
+        })
     }
 
     /// What a crash may leave now: wherever was written since the last sync, what a read gives where that is kept, and
@@ -62,8 +67,8 @@ impl MemDisk {
 }
 
 impl Disk for MemDisk {
-    ghost use Rattle.flow_disk.specs.Disk.{Holds, Gives, Torn, Same, Passes, SyncsNow, NoSync, CountsFault, Rests};
-    ghost use Rattle.flow_disk.specs.MemDisk.{seen_of, moment_of, image_of, synced_of, faults_of, IsLate, IsFull, Counts};
+    ghost use Rattle.flow_disk.specs.Disk.{Holds, Gives, Torn, MayTear, Same, Passes, SyncsNow, NoSync, CountsFault, Rests};
+    ghost use Rattle.flow_disk.specs.MemDisk.{seen_of, moment_of, image_of, synced_of, faults_of, chosen_of, the_file, calls_made, stop_of, IsLate, IsFull, Counts};
 
     ghost tells = { Unit {0} };
 
@@ -77,24 +82,34 @@ impl Disk for MemDisk {
 
     ghost faults = { faults_of };
 
+    // every path leads to the one file
+    ghost file_at = { λ _. the_file };
+
+    ghost chosen = { chosen_of };
+
     /// Opens for every path.
     #[tactic(auto, using(crate::proofs::ChangeLogLemmas::shown_image))]
     fn open(&mut self, _path: &str) -> Result<(), DiskFailed>
         requires { faults_of self.old < 2 ^ 64 - 1 }
         ensures cause { CountsFault (faults_of self.old) (faults_of self.new) result }
+        ensures chooses { MatchResult result (λ v. chosen_of self.new ≡ Some the_file) (λ e. chosen_of self.new ≡ None) }
         ensures rests { Rests (moment_of self.old) (moment_of self.new) (seen_of self.old) (seen_of self.new)
             (image_of self.old) (image_of self.new) (synced_of self.old) (synced_of self.new) }
         ensures own { image_of self.new (moment_of self.new) (seen_of self.new) }
         ensures late { IsErr result ↔ IsLate self.old }
         ensures counted { Counts self.old self.new 0 }
     {
-        self.calls.next()
+        self.chosen = false;
+        self.calls.next()?;
+        self.chosen = true;
+        Ok(())
     }
 
     #[tactic(auto, using(crate::proofs::ChangeLogLemmas::shown_image))]
     fn len(&mut self) -> Result<u64, DiskFailed>
         requires { faults_of self.old < 2 ^ 64 - 1 }
         ensures cause { CountsFault (faults_of self.old) (faults_of self.new) result }
+        ensures same_file { chosen_of self.new ≡ chosen_of self.old }
         ensures rests { Rests (moment_of self.old) (moment_of self.new) (seen_of self.old) (seen_of self.new)
             (image_of self.old) (image_of self.new) (synced_of self.old) (synced_of self.new) }
         ensures own { image_of self.new (moment_of self.new) (seen_of self.new) }
@@ -110,6 +125,7 @@ impl Disk for MemDisk {
     fn read_at(&mut self, at: u64, buf: &mut [u8]) -> Result<usize, DiskFailed>
         requires { faults_of self.old < 2 ^ 64 - 1 }
         ensures cause { CountsFault (faults_of self.old) (faults_of self.new) result }
+        ensures same_file { chosen_of self.new ≡ chosen_of self.old }
         ensures rests { Rests (moment_of self.old) (moment_of self.new) (seen_of self.old) (seen_of self.new)
             (image_of self.old) (image_of self.new) (synced_of self.old) (synced_of self.new) }
         ensures own { image_of self.new (moment_of self.new) (seen_of self.new) }
@@ -134,6 +150,7 @@ impl Disk for MemDisk {
         requires counts { faults_of self.old < 2 ^ 64 - 1 }
         requires within { at ≤ length (seen_of self.old) }
         ensures cause { CountsFault (faults_of self.old) (faults_of self.new) result }
+        ensures same_file { chosen_of self.new ≡ chosen_of self.old }
         ensures written { OnOk result (Holds (seen_of self.old) at bytes.now (seen_of self.new)) }
         ensures crash { Passes (moment_of self.old) (moment_of self.new) (image_of self.old) (image_of self.new)
             (Torn at (length bytes.now)) }
@@ -141,6 +158,9 @@ impl Disk for MemDisk {
         ensures own { image_of self.new (moment_of self.new) (seen_of self.new) }
         ensures late_or_full { IsErr result ↔ IsLate self.old ⊎ IsFull self.old (length bytes.now) }
         ensures counted { MatchResult result (λ _. Counts self.old self.new (length bytes.now)) (λ _. Counts self.old self.new 0) }
+        // a crash may leave anything in the range, also where the write failed, up to the first call that comes too late
+        ensures torn { calls_made self.old ≤ stop_of self.old
+            → MayTear at (length bytes.now) (image_of self.old (moment_of self.old)) (image_of self.new (moment_of self.new)) }
     {
         let at = at as usize;
         if let Err(failed) = self.calls.next() {
@@ -159,6 +179,7 @@ impl Disk for MemDisk {
     fn sync(&mut self) -> Result<(), DiskFailed>
         requires { faults_of self.old < 2 ^ 64 - 1 }
         ensures cause { CountsFault (faults_of self.old) (faults_of self.new) result }
+        ensures same_file { chosen_of self.new ≡ chosen_of self.old }
         ensures seen { seen_of self.new ≡ seen_of self.old }
         ensures crash { Passes (moment_of self.old) (moment_of self.new) (image_of self.old) (image_of self.new) Same }
         ensures syncs { MatchResult result

@@ -5,7 +5,7 @@ use Rattle.flow_keep.specs.Records.{records}
 use Rattle.flow_keep.specs.Kept.{IsSettled, IsBeforeOrAfter}
 use Rattle.flow_keep.proofs.RecordLemmas.{AreBodies, parts}
 use Rattle.flow_keep.proofs.MomentLemmas.{started, goes_on}
-use Rattle.flow_keep.proofs.AppendLemmas.{Settled, settled_parts, torn_behind, staged, written_behind, torn_gate, opened, written_gate, opened_records, opened_settled}
+use Rattle.flow_keep.proofs.AppendLemmas.{Settled, settled_parts, torn_behind, staged, written_behind, torn_gate, opened, written_gate, opened_gains, opened_records, opened_settled}
 
 module _ {D : Type 0} (moment : D → ℕ) (image : D → ℕ → List ℕ → Type 0) (seen : D → List ℕ) (first : D) (count : ℕ) (body line : List ℕ)
     (settled : IsSettled (seen first) (image first (moment first))) (counted : count ≡ length (records (seen first))) (is : line ≡ body ++ 0 ∷ []) (fifteen : length body ≡ 15) where
@@ -52,3 +52,6 @@ module _ {D : Type 0} (moment : D → ℕ) (image : D → ℕ → List ℕ → T
 
   pub is_settled : (d : D) → seen d ≡ opened (seen first) bodies all count counted file body fifteen → ((x : List ℕ) → image d (moment d) x → x ≡ seen d) → IsSettled (seen d) (image d (moment d))
   is_settled d there only = opened_settled (seen first) bodies all count counted file body fifteen (image d (moment d)) (seen d) there only
+
+  pub gains : (d : D) → seen d ≡ opened (seen first) bodies all count counted file body fifteen → Holds (seen first) (16 * count) (1 ∷ (body ++ 0 ∷ [])) (seen d)
+  gains d there = opened_gains (seen first) bodies all count counted file body fifteen (seen d) there

@@ -95,20 +95,24 @@ module _ (seen : List ℕ) (bodies : List (List ℕ)) (all : AreBodies bodies) (
   abbrev pub staged : List ℕ
   staged = blocks bodies ++ s.gate ∷ (body ++ 0 ∷ behind)
 
+  -- what stands behind the record's place
+  tail_is : (n : ℕ) → n ≡ 16 * count + 17 → drop n seen ≡ behind
+  tail_is n is =
+      ap (λ n. drop n seen) (let r : n ≡ length front + 16 = omega (arith, length-front, is) in r) ∙ ap (drop (length front + 16)) split ∙ past front s.behind 16
+    where
+      past : (xs ys : List ℕ) (n : ℕ) → drop (length xs + n) (xs ++ ys) ≡ drop n ys
+      past xs ys n = sym (drop-drop n (length xs) (xs ++ ys)) ∙ ap (drop n) (drop_at xs ys (length xs) refl)
+
   pub written_behind : (c : List ℕ) → Holds seen (16 * count + 1) (body ++ 0 ∷ []) c → c ≡ staged
   written_behind c holds =
       let bytes = body ++ 0 ∷ [] in
       let sixteen : length bytes ≡ 16 = omega (arith, fifteen, length-append body (0 ∷ [])) in
       let at = 16 * count + 1 in
       let first : take at seen ≡ front = ap (take at) split ∙ take_at front s.behind at length-front in
-      let last : drop (at + length bytes) seen ≡ behind =
-      ap (λ n. drop n seen) (let r : at + length bytes ≡ length front + 16 = omega (arith, length-front, sixteen) in r) ∙ ap (drop (length front + 16)) split ∙ past front s.behind 16 in
+      let last : drop (at + length bytes) seen ≡ behind = tail_is (at + length bytes) (omega (arith, sixteen)) in
       holds ∙ ap (λ (l : List ℕ). l ++ bytes ++ drop (at + length bytes) seen) first ∙ ap (λ (l : List ℕ). front ++ bytes ++ l) last
       ∙ append_assoc front bytes behind ∙ append_assoc (blocks bodies) (s.gate ∷ []) (bytes ++ behind)
       ∙ ap (λ (l : List ℕ). blocks bodies ++ s.gate ∷ l) (append_assoc body (0 ∷ []) behind)
-    where
-      past : (xs ys : List ℕ) (n : ℕ) → drop (length xs + n) (xs ++ ys) ≡ drop n ys
-      past xs ys n = sym (drop-drop n (length xs) (xs ++ ys)) ∙ ap (drop n) (drop_at xs ys (length xs) refl)
 
   parts_of : (c : List ℕ) → take (16 * count) staged ≡ blocks bodies
   parts_of c = take_at (blocks bodies) (s.gate ∷ (body ++ 0 ∷ behind)) (16 * count) size
@@ -130,6 +134,16 @@ module _ (seen : List ℕ) (bodies : List (List ℕ)) (all : AreBodies bodies) (
   -- the file with the record
   abbrev pub opened : List ℕ
   opened = blocks bodies ++ 1 ∷ (body ++ 0 ∷ behind)
+
+  -- it is as before but for the record with its gate, and a shut gate behind it
+  pub opened_gains : (c : List ℕ) → c ≡ opened → Holds seen (16 * count) (1 ∷ (body ++ 0 ∷ [])) c
+  opened_gains c is =
+      let line = 1 ∷ (body ++ 0 ∷ []) in
+      let sixteen : length (body ++ 0 ∷ []) ≡ 16 = omega (arith, fifteen, length-append body (0 ∷ [])) in
+      let first : take (16 * count) seen ≡ blocks bodies = ap (take (16 * count)) s.split ∙ take_at (blocks bodies) (s.gate ∷ s.behind) (16 * count) size in
+      let last : drop (16 * count + length line) seen ≡ behind = tail_is (16 * count + length line) (omega (arith, sixteen)) in
+      is ∙ ap (λ (l : List ℕ). blocks bodies ++ 1 ∷ l) (sym (append_assoc body (0 ∷ []) behind))
+      ∙ ap (λ (l : List ℕ). l ++ line ++ behind) (sym first) ∙ ap (λ (l : List ℕ). take (16 * count) seen ++ line ++ l) (sym last)
 
   pub written_gate : (c : List ℕ) → Holds staged (16 * count) (1 ∷ []) c → c ≡ opened
   written_gate c holds =

@@ -5,7 +5,7 @@ use Rattle.std.proofs.lemmas.List.{take_at, drop_at, get_or-drop, get_or-take, a
 use Rattle.flow_disk.specs.Disk.{Holds, Torn, Passes, NoSync, SyncsNow, Rests, Same, Leaves}
 use Rattle.flow_keep.specs.Records.{records, blocks}
 use Rattle.flow_keep.specs.Kept.{IsSettled, NeedsGate}
-use Rattle.flow_keep.specs.Opened.{KeepsRecords, KeepsSyncs}
+use Rattle.flow_keep.specs.Opened.{SomeSince, KeepsRecords, KeepsSyncs}
 use Rattle.flow_keep.proofs.RecordLemmas.{AreBodies, parts, open_made, shut_end, records_shut, records_behind, length-blocks}
 use Rattle.flow_keep.proofs.AppendLemmas.{shut_behind}
 use Rattle.flow_keep.proofs.MomentLemmas.{started, goes_on, goes_on_same}
@@ -217,3 +217,10 @@ syncs_none a b old new s = record { keeps = s.keeps; past = s.past }
 
 pub syncs_now : (a b : ℕ) (old new : ℕ → Type 0) (images : ℕ → List ℕ → Type 0) (seen : List ℕ) → SyncsNow a b old new images seen → KeepsSyncs a old new
 syncs_now a b old new images seen s = record { keeps = s.keeps; past = s.past }
+
+-- a sync that succeeded, and what comes after it
+pub some_now : (a b : ℕ) (old new : ℕ → Type 0) (images : ℕ → List ℕ → Type 0) (seen : List ℕ) → SyncsNow a b old new images seen → SomeSince new a b
+some_now a b old new images seen s = (b, s.rises, (let e : b ≤ b = omega arith in e), s.here)
+
+pub some_then : (a b c : ℕ) (mid last : ℕ → Type 0) → SomeSince mid a b → b ≤ c → KeepsSyncs b mid last → SomeSince last a c
+some_then a b c mid last (s, after, before, was) later syncs = (s, after, (let e : s ≤ c = omega (arith, before, later) in e), syncs.keeps s before was)

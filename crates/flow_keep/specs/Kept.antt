@@ -6,7 +6,8 @@ use Rattle.flow_model.specs.declared.history.Step.{Step}
 use Rattle.flow_model.specs.declared.history.Step.TheVariants.{Took, Done, Failed, Late, Did, Rewound, Committed}
 use Rattle.flow_model.specs.Lists.{Each}
 use Rattle.flow_record.specs.History.{IsSmall, HasSmallNumbers}
-use Rattle.flow_keep.specs.Records.{records, Keeps}
+use Rattle.flow_disk.specs.Disk.{Holds}
+use Rattle.flow_keep.specs.Records.{records, body_of, Keeps}
 
 -- behind the records stands a byte that is no open gate, and a crash leaves just these bytes
 pub record IsSettled (seen : List ℕ) (image : List ℕ → Type 0) : Type 0 where
@@ -33,6 +34,11 @@ IsBeforeOrAfter bodies body file = (records file ≡ bodies) ⊎ (records file �
 -- the file keeps the one history or the other
 abbrev pub KeepsEither : List Entry → List Entry → List ℕ → Type 0
 KeepsEither before after file = Keeps before file ⊎ Keeps after file
+
+-- the file gains the record of the entry that came, with a zero byte behind it, and is else as it was
+abbrev pub GainsRecord : List Entry → List Entry → List ℕ → List ℕ → Type 0
+GainsRecord before after old new =
+    (entry : Entry) → after ≡ before ++ entry ∷ [] → Holds old (16 * length before) (1 ∷ (body_of entry ++ 0 ∷ [])) new
 
 -- that numbers are of 32 bits has one proof, so a type may keep it
 numbers-prop : (step : Step) → IsProp (HasSmallNumbers step)

@@ -13,6 +13,10 @@ use Rattle.flow_keep.specs.declared.refusal.KeepRefusal.TheVariants.{DiskFault, 
 abbrev pub NoneSince : (ℕ → Type 0) → ℕ → ℕ → Type 0
 NoneSince synced since now = (s : ℕ) → since < s → s ≤ now → ¬ (synced s)
 
+-- a sync succeeded after the one moment, up to the other
+abbrev pub SomeSince : (ℕ → Type 0) → ℕ → ℕ → Type 0
+SomeSince synced since now = (s : ℕ) × (since < s) × (s ≤ now) × synced s
+
 -- From the first sync of the call on each image keeps the records that a read gave at its beginning. Until then each
 -- image is one that a crash could have left at its beginning.
 pub record KeepsRecords {D : Type 0} (moment : D → ℕ) (image : D → ℕ → List ℕ → Type 0) (synced : D → ℕ → Type 0) (seen : D → List ℕ) (old new : D) : Type 0 where

@@ -1,6 +1,6 @@
 //! One record more, so that a crash at any moment leaves the records with it or without.
-ghost use Rattle.std.specs.Prelude.{◌≡◌, ◌++◌, ◌∷◌, [], ◌-◌, ◌^◌, ◌<◌, ◌≤◌, ℕ, List, length, OnOk};
-ghost use Rattle.flow_disk.specs.Disk.{CountsFault, Leaves};
+ghost use Rattle.std.specs.Prelude.{◌≡◌, ◌++◌, ◌∷◌, [], ◌-◌, ◌*◌, ◌^◌, ◌<◌, ◌≤◌, ℕ, List, length, OnOk};
+ghost use Rattle.flow_disk.specs.Disk.{CountsFault, Holds, Leaves};
 ghost use Rattle.flow_keep.specs.Records.{records};
 ghost use Rattle.flow_keep.specs.Kept.{IsSettled, IsBeforeOrAfter};
 
@@ -24,8 +24,10 @@ pub(crate) fn append<D: Disk>(disk: &mut D, count: u64, body: &[u8; BODY]) -> Re
     requires settled { D.tells → IsSettled (D.seen disk.old) (D.image disk.old (D.moment disk.old)) }
     requires place { D.tells → count ≡ length (records (D.seen disk.old)) }
     ensures cause { CountsFault (D.faults disk.old) (D.faults disk.new) result }
+    ensures same_file { D.chosen disk.new ≡ D.chosen disk.old }
     ensures settled { OnOk result (D.tells → IsSettled (D.seen disk.new) (D.image disk.new (D.moment disk.new))) }
     ensures kept { OnOk result (D.tells → records (D.seen disk.new) ≡ records (D.seen disk.old) ++ body.now ∷ []) }
+    ensures gains { OnOk result (D.tells → Holds (D.seen disk.old) (16 * count) (1 ∷ (body.now ++ 0 ∷ [])) (D.seen disk.new)) }
     ensures any_moment { D.tells → Leaves D.moment D.image disk.old disk.new
         (IsBeforeOrAfter (records (D.seen disk.old)) body.now) }
 {

@@ -4,7 +4,7 @@ ghost use Rattle.flow_model.specs.Lists.{Each};
 ghost use Rattle.flow_record.specs.History.{IsSmall};
 ghost use Rattle.flow_disk.specs.Disk.{Leaves};
 ghost use Rattle.flow_keep.specs.Records.{Keeps};
-ghost use Rattle.flow_keep.specs.Kept.{IsKept, KeepsEither};
+ghost use Rattle.flow_keep.specs.Kept.{IsKept, KeepsEither, GainsRecord};
 ghost use Rattle.flow_keep.specs.Answered.{IsTold, CountsKept};
 
 use crate::keep::{Keep, keep_last};
@@ -30,8 +30,11 @@ fn answer_kept<D: Disk, A: Copy, R: Copy>(
     requires whole { broken.old ≡ false }
     ensures told { IsTold answer broken.new result }
     ensures fault { CountsKept (D.faults disk.old) (D.faults disk.new) result }
+    ensures same_file { D.chosen disk.new ≡ D.chosen disk.old }
     ensures kept { broken.new ≡ false → D.tells →
         IsKept core.now.history (D.seen disk.new) (D.image disk.new (D.moment disk.new)) }
+    ensures gains { D.tells → broken.new ≡ false →
+        GainsRecord (take count core.now.history) core.now.history (D.seen disk.old) (D.seen disk.new) }
     ensures any_moment { D.tells → Leaves D.moment D.image disk.old disk.new
         (KeepsEither (take count core.now.history) core.now.history) }
     ensures small { Each IsSmall (take count core.now.history) → Each IsSmall core.now.history }
@@ -63,7 +66,10 @@ impl<D: Disk> Keep<D> {
         ensures answer { IsKeptAnswer (Takes (run_of self.old) leaf by) by
             (is_broken self.old) (run_of self.old) result (is_broken self.new) (run_of self.new) }
         ensures fault { CountsKept (D.faults (disk_of self.old)) (D.faults (disk_of self.new)) result }
+        ensures same_file { D.chosen (disk_of self.new) ≡ D.chosen (disk_of self.old) }
         ensures same_disk { run_of self.new ≡ run_of self.old → disk_of self.new ≡ disk_of self.old }
+        ensures gains { D.tells → is_broken self.new ≡ false → GainsRecord (run_of self.old).history (run_of self.new).history
+            (D.seen (disk_of self.old)) (D.seen (disk_of self.new)) }
         ensures any_moment { D.tells → is_broken self.old ≡ false → Leaves D.moment D.image (disk_of self.old) (disk_of self.new)
             (KeepsEither (run_of self.old).history (run_of self.new).history) }
         ensures acknowledged { D.tells → is_broken self.new ≡ false → (c : List ℕ) →
@@ -86,7 +92,10 @@ impl<D: Disk> Keep<D> {
         ensures answer { IsKeptAnswer (Performs (run_of self.old) leaf by) by
             (is_broken self.old) (run_of self.old) result (is_broken self.new) (run_of self.new) }
         ensures fault { CountsKept (D.faults (disk_of self.old)) (D.faults (disk_of self.new)) result }
+        ensures same_file { D.chosen (disk_of self.new) ≡ D.chosen (disk_of self.old) }
         ensures same_disk { run_of self.new ≡ run_of self.old → disk_of self.new ≡ disk_of self.old }
+        ensures gains { D.tells → is_broken self.new ≡ false → GainsRecord (run_of self.old).history (run_of self.new).history
+            (D.seen (disk_of self.old)) (D.seen (disk_of self.new)) }
         ensures any_moment { D.tells → is_broken self.old ≡ false → Leaves D.moment D.image (disk_of self.old) (disk_of self.new)
             (KeepsEither (run_of self.old).history (run_of self.new).history) }
         ensures acknowledged { D.tells → is_broken self.new ≡ false → (c : List ℕ) →
@@ -109,7 +118,10 @@ impl<D: Disk> Keep<D> {
         ensures answer { IsKeptAnswer (PostsDone (run_of self.old) claim by) by
             (is_broken self.old) (run_of self.old) result (is_broken self.new) (run_of self.new) }
         ensures fault { CountsKept (D.faults (disk_of self.old)) (D.faults (disk_of self.new)) result }
+        ensures same_file { D.chosen (disk_of self.new) ≡ D.chosen (disk_of self.old) }
         ensures same_disk { run_of self.new ≡ run_of self.old → disk_of self.new ≡ disk_of self.old }
+        ensures gains { D.tells → is_broken self.new ≡ false → GainsRecord (run_of self.old).history (run_of self.new).history
+            (D.seen (disk_of self.old)) (D.seen (disk_of self.new)) }
         ensures any_moment { D.tells → is_broken self.old ≡ false → Leaves D.moment D.image (disk_of self.old) (disk_of self.new)
             (KeepsEither (run_of self.old).history (run_of self.new).history) }
         ensures acknowledged { D.tells → is_broken self.new ≡ false → (c : List ℕ) →
@@ -132,7 +144,10 @@ impl<D: Disk> Keep<D> {
         ensures answer { IsKeptAnswer (PostsFailed (run_of self.old) claim by) by
             (is_broken self.old) (run_of self.old) result (is_broken self.new) (run_of self.new) }
         ensures fault { CountsKept (D.faults (disk_of self.old)) (D.faults (disk_of self.new)) result }
+        ensures same_file { D.chosen (disk_of self.new) ≡ D.chosen (disk_of self.old) }
         ensures same_disk { run_of self.new ≡ run_of self.old → disk_of self.new ≡ disk_of self.old }
+        ensures gains { D.tells → is_broken self.new ≡ false → GainsRecord (run_of self.old).history (run_of self.new).history
+            (D.seen (disk_of self.old)) (D.seen (disk_of self.new)) }
         ensures any_moment { D.tells → is_broken self.old ≡ false → Leaves D.moment D.image (disk_of self.old) (disk_of self.new)
             (KeepsEither (run_of self.old).history (run_of self.new).history) }
         ensures acknowledged { D.tells → is_broken self.new ≡ false → (c : List ℕ) →
@@ -155,7 +170,10 @@ impl<D: Disk> Keep<D> {
         ensures answer { IsKeptAnswer (Rewinds (run_of self.old) by) by
             (is_broken self.old) (run_of self.old) result (is_broken self.new) (run_of self.new) }
         ensures fault { CountsKept (D.faults (disk_of self.old)) (D.faults (disk_of self.new)) result }
+        ensures same_file { D.chosen (disk_of self.new) ≡ D.chosen (disk_of self.old) }
         ensures same_disk { run_of self.new ≡ run_of self.old → disk_of self.new ≡ disk_of self.old }
+        ensures gains { D.tells → is_broken self.new ≡ false → GainsRecord (run_of self.old).history (run_of self.new).history
+            (D.seen (disk_of self.old)) (D.seen (disk_of self.new)) }
         ensures any_moment { D.tells → is_broken self.old ≡ false → Leaves D.moment D.image (disk_of self.old) (disk_of self.new)
             (KeepsEither (run_of self.old).history (run_of self.new).history) }
         ensures acknowledged { D.tells → is_broken self.new ≡ false → (c : List ℕ) →
@@ -178,7 +196,10 @@ impl<D: Disk> Keep<D> {
         ensures answer { IsKeptAnswer (Commits (run_of self.old) by) by
             (is_broken self.old) (run_of self.old) result (is_broken self.new) (run_of self.new) }
         ensures fault { CountsKept (D.faults (disk_of self.old)) (D.faults (disk_of self.new)) result }
+        ensures same_file { D.chosen (disk_of self.new) ≡ D.chosen (disk_of self.old) }
         ensures same_disk { run_of self.new ≡ run_of self.old → disk_of self.new ≡ disk_of self.old }
+        ensures gains { D.tells → is_broken self.new ≡ false → GainsRecord (run_of self.old).history (run_of self.new).history
+            (D.seen (disk_of self.old)) (D.seen (disk_of self.new)) }
         ensures any_moment { D.tells → is_broken self.old ≡ false → Leaves D.moment D.image (disk_of self.old) (disk_of self.new)
             (KeepsEither (run_of self.old).history (run_of self.new).history) }
         ensures acknowledged { D.tells → is_broken self.new ≡ false → (c : List ℕ) →

@@ -14,6 +14,7 @@ fn needs_gate<D: Disk>(disk: &mut D, count: u64) -> Result<bool, DiskFailed>
     requires near { count < 2 ^ 32 }
     requires place { D.tells → count ≡ length (records (D.seen disk.old)) }
     ensures cause { CountsFault (D.faults disk.old) (D.faults disk.new) result }
+    ensures same_file { D.chosen disk.new ≡ D.chosen disk.old }
     ensures rests { D.tells → Rests (D.moment disk.old) (D.moment disk.new) (D.seen disk.old) (D.seen disk.new)
         (D.image disk.old) (D.image disk.new) (D.synced disk.old) (D.synced disk.new) }
     ensures needs { D.tells → IfOk result (λ b. b ≡ true → NeedsGate (D.seen disk.old) count) }
@@ -39,6 +40,7 @@ pub(crate) fn close_end<D: Disk>(disk: &mut D, count: u64) -> Result<(), DiskFai
     requires place { D.tells → count ≡ length (records (D.seen disk.old)) }
     requires durable { D.tells → (c : List ℕ) → D.image disk.old (D.moment disk.old) c → c ≡ D.seen disk.old }
     ensures cause { CountsFault (D.faults disk.old) (D.faults disk.new) result }
+    ensures same_file { D.chosen disk.new ≡ D.chosen disk.old }
     ensures settled { D.tells → OnOk result (IsSettled (D.seen disk.new) (D.image disk.new (D.moment disk.new))) }
     ensures records { D.tells → OnOk result (records (D.seen disk.new) ≡ records (D.seen disk.old)) }
     ensures any_moment { D.tells → Leaves D.moment D.image disk.old disk.new

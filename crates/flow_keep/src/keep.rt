@@ -3,7 +3,7 @@ ghost use Rattle.flow_model.specs.Lists.{Each};
 ghost use Rattle.flow_record.specs.History.{IsSmall};
 ghost use Rattle.flow_disk.specs.Disk.{CountsFault, Leaves};
 ghost use Rattle.flow_keep.specs.Records.{Keeps};
-ghost use Rattle.flow_keep.specs.Kept.{IsKept, KeepsEither, small-prop};
+ghost use Rattle.flow_keep.specs.Kept.{IsKept, KeepsEither, GainsRecord, small-prop};
 
 use crate::append::append;
 use crate::body::body_of;
@@ -27,7 +27,9 @@ pub(crate) fn keep_last<D: Disk>(disk: &mut D, core: &Core, count: usize) -> Res
     requires one { length core.now.history ≤ count + 1 }
     requires kept { D.tells → IsKept (take count core.now.history) (D.seen disk.old) (D.image disk.old (D.moment disk.old)) }
     ensures cause { CountsFault (D.faults disk.old) (D.faults disk.new) result }
+    ensures same_file { D.chosen disk.new ≡ D.chosen disk.old }
     ensures kept { OnOk result (D.tells → IsKept core.now.history (D.seen disk.new) (D.image disk.new (D.moment disk.new))) }
+    ensures gains { D.tells → OnOk result (GainsRecord (take count core.now.history) core.now.history (D.seen disk.old) (D.seen disk.new)) }
     ensures any_moment { D.tells → Leaves D.moment D.image disk.old disk.new
         (KeepsEither (take count core.now.history) core.now.history) }
     ensures small { Each IsSmall (take count core.now.history) → Each IsSmall core.now.history }

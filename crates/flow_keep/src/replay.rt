@@ -23,6 +23,7 @@ pub(crate) fn replay<D: Disk>(disk: &mut D, core: &mut Core) -> Result<(), KeepR
     requires faults { D.faults disk.old < 2 ^ 64 - 1 }
     requires first { core.old.history ≡ [] }
     ensures cause { CountsRefusal (D.faults disk.old) (D.faults disk.new) result }
+    ensures same_file { D.chosen disk.new ≡ D.chosen disk.old }
     ensures rests { D.tells → Rests (D.moment disk.old) (D.moment disk.new) (D.seen disk.old) (D.seen disk.new)
         (D.image disk.old) (D.image disk.new) (D.synced disk.old) (D.synced disk.new) }
     ensures definition { OnOk result (core.new.definition ≡ core.old.definition) }
@@ -70,6 +71,7 @@ pub fn read_kept<D: Disk>(
     requires some { 1 ≤ limit }
     requires few { limit ≤ MOST_ENTRIES }
     requires faults { D.faults disk.old < 2 ^ 64 - 1 }
+    ensures same_file { D.chosen disk.new ≡ D.chosen disk.old }
     ensures rests { D.tells → Rests (D.moment disk.old) (D.moment disk.new) (D.seen disk.old) (D.seen disk.new)
         (D.image disk.old) (D.image disk.new) (D.synced disk.old) (D.synced disk.new) }
     // the run is what the file keeps

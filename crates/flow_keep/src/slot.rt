@@ -26,6 +26,7 @@ pub(crate) fn read_full<D: Disk>(disk: &mut D, at: u64, buf: &mut [u8]) -> Resul
     requires near { at < 2 ^ 40 }
     requires small { length buf.old < 2 ^ 40 }
     ensures cause { CountsFault (D.faults disk.old) (D.faults disk.new) result }
+    ensures same_file { D.chosen disk.new ≡ D.chosen disk.old }
     ensures rests { D.tells → Rests (D.moment disk.old) (D.moment disk.new) (D.seen disk.old) (D.seen disk.new)
         (D.image disk.old) (D.image disk.new) (D.synced disk.old) (D.synced disk.new) }
     ensures fits { IfOk result (λ n. n ≤ length buf.new) }
@@ -60,6 +61,7 @@ pub(crate) fn read_slot<D: Disk>(disk: &mut D, index: u64) -> Result<Slot, DiskF
     requires faults { D.faults disk.old < 2 ^ 64 - 1 }
     requires near { index ≤ 2 ^ 32 }
     ensures cause { CountsFault (D.faults disk.old) (D.faults disk.new) result }
+    ensures same_file { D.chosen disk.new ≡ D.chosen disk.old }
     ensures rests { D.tells → Rests (D.moment disk.old) (D.moment disk.new) (D.seen disk.old) (D.seen disk.new)
         (D.image disk.old) (D.image disk.new) (D.synced disk.old) (D.synced disk.new) }
     ensures small { IfOk result HoldsSmall }

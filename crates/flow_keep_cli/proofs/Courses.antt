@@ -13,7 +13,7 @@ use Rattle.flow_keep_cli.specs.Status.{status_of}
 use Rattle.flow_keep_cli.specs.Lines.{kept_line, open_line, disk_line, foreign_line}
 use Rattle.flow_keep_cli.specs.Session.{IsCut, BehindStatus, IsWhole}
 use Rattle.flow_keep_cli.specs.Asked.{Wanted, IsWanted}
-use Rattle.flow_keep_cli.specs.Course.{run_from, IsFound, IsSaid, IsTold, IsSilent, IsFirstLine, IsSafe, IsNotBegun, IsCutShort, IsGoneThrough, IsCourse, IsTurnedAway, IsBefore, IsCutOff, IsDriven, IsOver, IsRefusal, IsMishap}
+use Rattle.flow_keep_cli.specs.Course.{run_from, IsAt, IsFound, IsSaid, IsTold, IsSilent, IsFirstLine, IsSafe, IsNotBegun, IsCutShort, IsGoneThrough, IsCourse, IsAnsweredAlone, IsBefore, IsCutOff, IsDriven, IsOver, IsRefusal, IsMishap}
 use Rattle.flow_keep_cli.proofs.Disks.{safe_same}
 
 over_verdict : (v : model.Verdict) → IsOver (status_of (ended v))
@@ -57,43 +57,43 @@ told_not_over (hindrance.Foreign index) held held' result (inl told) over = said
 told_not_over (hindrance.Foreign index) held held' result (inr silent) over = silent_not_over held held' result silent over
 told_not_over hindrance.NoMemory held held' result silent over = silent_not_over held held' result silent over
 
-module _ {D : Type 0} (tells : Type 0) (moment : D → ℕ) (image : D → ℕ → List ℕ → Type 0) (synced : D → ℕ → Type 0) (seen : D → List ℕ) (faults : D → ℕ)
+module _ {D : Type 0} (tells : Type 0) (moment : D → ℕ) (image : D → ℕ → List ℕ → Type 0) (synced : D → ℕ → Type 0) (seen : D → List ℕ) (faults : D → ℕ) (chosen : D → Option ℕ) (file_at : List ℕ → ℕ)
     (words : List (List ℕ)) (source : Option (List ℕ)) (disk disk' : D) (held held' : Option (List ℕ)) (result : KeepStatus) where
   abbrev Before : Type 0
-  Before = IsBefore tells moment image synced seen faults words source disk disk' held held' result
+  Before = IsBefore tells moment image synced seen faults chosen file_at words source disk disk' held held' result
 
   abbrev Cut : Type 0
-  Cut = IsCutOff tells moment image synced seen faults words source disk disk' held held' result
+  Cut = IsCutOff tells moment image synced seen faults chosen file_at words source disk disk' held held' result
 
   abbrev Driven : Type 0
-  Driven = IsDriven tells moment image synced seen faults words source disk disk' held held' result
+  Driven = IsDriven tells moment image synced seen faults chosen file_at words source disk disk' held held' result
 
   abbrev Turned : Type 0
-  Turned = IsTurnedAway words source disk disk' held held' result
+  Turned = IsAnsweredAlone words source disk disk' held held' result
 
-  untouched : disk' ≡ disk → IsSafe tells moment image synced seen faults disk disk'
-  untouched is told = subst (λ (d : D). IsSafe tells moment image synced seen faults disk d) (sym is) (λ _. safe_same moment image synced seen disk) told
+  untouched : disk' ≡ disk → IsSafe tells moment image synced seen faults chosen file_at disk disk'
+  untouched is told = subst (λ (d : D). IsSafe tells moment image synced seen faults chosen file_at disk d) (sym is) (λ _. safe_same moment image synced seen disk) told
 
   -- ---- nothing wanted of the disk
 
-  pub before_turned : Turned → Before
-  before_turned turned = record { safe = untouched turned.0; came = inl turned }
+  pub before_alone : Turned → Before
+  before_alone turned = record { safe = untouched turned.0; came = inl turned }
 
   -- ---- a session
 
-  module _ (wanted : Wanted) (is : IsWanted words source wanted) (course : IsCourse tells moment image synced seen faults wanted.workflow wanted.steps wanted.commands disk disk' held held' result) where
-    before_begun : (IsSafe tells moment image synced seen faults disk disk' × IsNotBegun tells moment image synced seen faults wanted.workflow wanted.steps disk disk' held held' result) → Before
+  module _ (wanted : Wanted) (is : IsWanted words source wanted) (course : IsCourse tells moment image synced seen faults chosen file_at wanted.path wanted.workflow wanted.steps wanted.commands disk disk' held held' result) where
+    before_begun : (IsSafe tells moment image synced seen faults chosen file_at disk disk' × IsNotBegun tells moment image synced seen faults chosen file_at wanted.path wanted.workflow wanted.steps disk disk' held held' result) → Before
     before_begun (safe, not) = record { safe = safe; came = inr (inr (wanted, is, not)) }
 
-    not_begun_not_over : IsNotBegun tells moment image synced seen faults wanted.workflow wanted.steps disk disk' held held' result → ¬ (IsOver result)
+    not_begun_not_over : IsNotBegun tells moment image synced seen faults chosen file_at wanted.path wanted.workflow wanted.steps disk disk' held held' result → ¬ (IsOver result)
     not_begun_not_over (inl (why, hindered, told)) over = told_not_over why held held' result told over
-    not_begun_not_over (inr (fine, (history, found, inl silent))) over = silent_not_over held held' result silent over
-    not_begun_not_over (inr (fine, (history, found, inr (fault, part)))) over = subst IsOver fault over
+    not_begun_not_over (inr (fine, at, (history, found, inl silent))) over = silent_not_over held held' result silent over
+    not_begun_not_over (inr (fine, at, (history, found, inr (fault, part)))) over = subst IsOver fault over
 
-    cut_mishap : IsCutShort tells moment image synced seen faults wanted.workflow wanted.steps wanted.commands disk disk' held held' result → IsMishap result
+    cut_mishap : IsCutShort tells moment image synced seen faults chosen file_at wanted.path wanted.workflow wanted.steps wanted.commands disk disk' held held' result → IsMishap result
     cut_mishap c = behind_mishap wanted.commands result c.cut.middle c.cut.done c.cut.more c.cut.behind
 
-    whole_over : IsGoneThrough tells moment image synced seen faults wanted.workflow wanted.steps wanted.commands disk disk' held held' result → IsOver result
+    whole_over : IsGoneThrough tells moment image synced seen faults chosen file_at wanted.path wanted.workflow wanted.steps wanted.commands disk disk' held held' result → IsOver result
     whole_over w = subst IsOver (sym w.whole.status_is) (over_verdict w.whole.driven.verdict)
 
     pub driven_of : IsOver result → Turned ⊎ Driven
@@ -119,30 +119,33 @@ module _ {D : Type 0} (tells : Type 0) (moment : D → ℕ) (image : D → ℕ �
 
 -- ---- a session, from how it was begun
 
-module _ {D : Type 0} (tells : Type 0) (moment : D → ℕ) (image : D → ℕ → List ℕ → Type 0) (synced : D → ℕ → Type 0) (seen : D → List ℕ) (faults : D → ℕ)
-    (w : Definition) (steps : ℕ) (commands : List Command) (disk disk' : D) (held held' : Option (List ℕ)) (result : KeepStatus) where
+module _ {D : Type 0} (tells : Type 0) (moment : D → ℕ) (image : D → ℕ → List ℕ → Type 0) (synced : D → ℕ → Type 0) (seen : D → List ℕ) (faults : D → ℕ) (chosen : D → Option ℕ) (file_at : List ℕ → ℕ)
+    (path : List ℕ) (w : Definition) (steps : ℕ) (commands : List Command) (disk disk' : D) (held held' : Option (List ℕ)) (result : KeepStatus) where
   abbrev Course : Type 0
-  Course = IsCourse tells moment image synced seen faults w steps commands disk disk' held held' result
+  Course = IsCourse tells moment image synced seen faults chosen file_at path w steps commands disk disk' held held' result
 
   -- it was begun, and the disk is then what it left
   pub course_begun : (begun left : D) (first : Run) → first ≡ run_from w steps first.history → IsFound tells (seen disk) w steps first.history →
-      IsSafe tells moment image synced seen faults disk begun → faults begun ≡ faults disk → disk' ≡ left →
+      IsSafe tells moment image synced seen faults chosen file_at disk begun → faults begun ≡ faults disk →
+      IsAt tells moment image synced seen faults chosen file_at path begun → chosen left ≡ chosen begun → disk' ≡ left →
       ((left ≡ begun) × IsFirstLine first.history held held' result)
       ⊎ (IsCut first commands (BehindStatus commands result) (kept_line (length first.history)) held held' tells (image left (moment left))
       ⊎ IsWhole first commands (kept_line (length first.history)) result held held' tells (seen left) (image left (moment left))) → Course
-  course_begun begun left first is found safe fine last (inl (same, line)) =
+  course_begun begun left first is found safe fine at same_file last (inl (same, line)) =
       let back : disk' ≡ begun = last ∙ same in
       inl (
-        subst (λ (d : D). IsSafe tells moment image synced seen faults disk d) (sym back) safe,
-        inr ((λ more. let e = ap faults back in omega (arith, e, fine, more)), (first.history, found, line)),
+        subst (λ (d : D). IsSafe tells moment image synced seen faults chosen file_at disk d) (sym back) safe,
+        inr ((λ more. let e = ap faults back in omega (arith, e, fine, more)), ap chosen back ∙ at, (first.history, found, line)),
       )
-  course_begun begun left first is found safe fine last (inr (inl cut)) = inr (inl (record {
+  course_begun begun left first is found safe fine at same_file last (inr (inl cut)) = inr (inl (record {
+    file = ap chosen last ∙ same_file ∙ at;
     history = first.history;
     found = found;
     cut = subst (λ (r : Run). IsCut r commands (BehindStatus commands result) (kept_line (length first.history)) held held' tells (image disk' (moment disk'))) is
         (subst (λ (d : D). IsCut first commands (BehindStatus commands result) (kept_line (length first.history)) held held' tells (image d (moment d))) (sym last) cut);
   }))
-  course_begun begun left first is found safe fine last (inr (inr whole)) = inr (inr (record {
+  course_begun begun left first is found safe fine at same_file last (inr (inr whole)) = inr (inr (record {
+    file = ap chosen last ∙ same_file ∙ at;
     history = first.history;
     found = found;
     whole = subst (λ (r : Run). IsWhole r commands (kept_line (length first.history)) result held held' tells (seen disk') (image disk' (moment disk'))) is

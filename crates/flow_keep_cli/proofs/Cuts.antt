@@ -43,11 +43,11 @@ module _ (first middle new : Run) (commands : List Command) (i : ℕ) (d : Comma
 
   -- the file keeps the run with the next command
   after : (file : List ℕ) → Keeps new.history file → KeepsSome first commands i file
-  after file kept = record { count = i + 1; from = (let e : i ≤ i + 1 = omega arith in e); within = (let e : i + 1 ≤ length commands = omega (arith, within) in e); last = new; goes = one_more; kept = kept }
+  after file kept = record { count = i + 1; from = (let e : i ≤ i + 1 = omega arith in e); soon = (let e : i + 1 ≤ i + 1 = omega arith in e); within = (let e : i + 1 ≤ length commands = omega (arith, within) in e); last = new; goes = one_more; kept = kept }
 
   -- or without it
   before : (file : List ℕ) → Keeps middle.history file → KeepsSome first commands i file
-  before file kept = record { count = i; from = (let e : i ≤ i = omega arith in e); within = (let e : i ≤ length commands = omega (arith, within) in e); last = middle; goes = goes_of first middle (take i commands) text driven; kept = kept }
+  before file kept = record { count = i; from = (let e : i ≤ i = omega arith in e); soon = (let e : i ≤ i + 1 = omega arith in e); within = (let e : i ≤ length commands = omega (arith, within) in e); last = middle; goes = goes_of first middle (take i commands) text driven; kept = kept }
 
   few : i ≤ length commands
   few = omega (arith, within)
@@ -135,6 +135,7 @@ cut_after first last commands Behind text more held held' held'' tells images dr
       keeps = λ told file image. record {
         count = length commands;
         from = (let e : length commands ≤ length commands = omega arith in e);
+        soon = (let e : length commands ≤ length commands + 1 = omega arith in e);
         within = (let e : length commands ≤ length commands = omega arith in e);
         last = last;
         goes = goes_of first last (take (length commands) commands) text front;

@@ -1,5 +1,5 @@
 -- A call on a disk that changed nothing, and what comes of an opening after it.
-use Rattle.std.proofs.Common.{◌≡◌, ◌∙◌, inl, inr, ℕ, ◌<◌, ◌≤◌, List, refl, sym, subst, ap, arith}
+use Rattle.std.proofs.Common.{◌≡◌, ◌∙◌, inl, inr, ℕ, ◌<◌, ◌≤◌, List, Option, refl, sym, subst, ap, arith}
 use Rattle.std.proofs.lemmas.Bool.{cases_lt}
 use Rattle.std.specs.Prelude.{◌↔◌}
 use Rattle.flow_workflow.specs.Definition.{Definition, schema_of}
@@ -9,7 +9,7 @@ use Rattle.flow_keep.specs.declared.refusal.KeepRefusal.TheVariants.{DiskFault, 
 use Rattle.flow_keep.specs.Records.{records}
 use Rattle.flow_keep.specs.Opened.{KeepsRecords, KeepsSyncs, IsForeign}
 use Rattle.flow_keep_cli.specs.Hindrances.{hindrance_of}
-use Rattle.flow_keep_cli.specs.Course.{IsQuiet, IsHindered}
+use Rattle.flow_keep_cli.specs.Course.{IsQuiet, IsAt, IsHindered}
 
 module _ {D : Type 0} (moment : D → ℕ) (image : D → ℕ → List ℕ → Type 0) (synced : D → ℕ → Type 0) (seen : D → List ℕ) where
   -- no call at all
@@ -47,17 +47,19 @@ module _ {D : Type 0} (moment : D → ℕ) (image : D → ℕ → List ℕ → T
         }
 
 -- a keep that is not opened on a disk whose file was chosen
-pub hindered_of : {D : Type 0} (tells : Type 0) (moment : D → ℕ) (image : D → ℕ → List ℕ → Type 0) (synced : D → ℕ → Type 0) (seen : D → List ℕ) (faults : D → ℕ)
-    (w : Definition) (steps : ℕ) (disk chosen disk' : D) (why : KeepRefusal) → IsQuiet tells moment image synced seen faults disk chosen → faults chosen ≡ faults disk →
-    ((why ≡ DiskFault) ↔ (faults chosen < faults disk')) →
-    (tells → (index : ℕ) → why ≡ Foreign index → IsForeign (schema_of w) steps (records (seen chosen)) index) →
-    (tells → (index : ℕ) → why ≡ Foreign index → seen disk' ≡ seen chosen) →
-    IsHindered tells moment image synced seen faults w steps disk (hindrance_of why) disk'
-hindered_of tells moment image synced seen faults w steps disk chosen disk' DiskFault quiet fine fault foreign alone = (chosen, quiet, fine, fault.0 refl)
-hindered_of tells moment image synced seen faults w steps disk chosen disk' (Foreign index) quiet fine fault foreign alone = (
+pub hindered_of : {D : Type 0} (tells : Type 0) (moment : D → ℕ) (image : D → ℕ → List ℕ → Type 0) (synced : D → ℕ → Type 0) (seen : D → List ℕ) (faults : D → ℕ) (chosen : D → Option ℕ) (file_at : List ℕ → ℕ)
+    (path : List ℕ) (w : Definition) (steps : ℕ) (disk opened disk' : D) (why : KeepRefusal) → IsQuiet tells moment image synced seen faults chosen file_at disk opened → faults opened ≡ faults disk →
+    IsAt tells moment image synced seen faults chosen file_at path opened → chosen disk' ≡ chosen opened → ((why ≡ DiskFault) ↔ (faults opened < faults disk')) →
+    (tells → (index : ℕ) → why ≡ Foreign index → IsForeign (schema_of w) steps (records (seen opened)) index) →
+    (tells → (index : ℕ) → why ≡ Foreign index → seen disk' ≡ seen opened) →
+    IsHindered tells moment image synced seen faults chosen file_at path w steps disk (hindrance_of why) disk'
+hindered_of tells moment image synced seen faults chosen file_at path w steps disk opened disk' DiskFault quiet fine at same_file fault foreign alone =
+    ((opened, quiet, fine, fault.0 refl), same_file ∙ at)
+hindered_of tells moment image synced seen faults chosen file_at path w steps disk opened disk' (Foreign index) quiet fine at same_file fault foreign alone = (
   (λ more. absurd (let never = fault.1 (omega (arith, more, fine)) in cc)),
   (λ told. subst (λ (f : List ℕ). IsForeign (schema_of w) steps (records f) index) (quiet told).seen_is (foreign told index refl)),
   (λ told. alone told index refl ∙ (quiet told).seen_is),
+  same_file ∙ at,
 )
-hindered_of tells moment image synced seen faults w steps disk chosen disk' NoMemory quiet fine fault foreign alone =
-    λ more. absurd (let never = fault.1 (omega (arith, more, fine)) in cc)
+hindered_of tells moment image synced seen faults chosen file_at path w steps disk opened disk' NoMemory quiet fine at same_file fault foreign alone =
+    ((λ more. absurd (let never = fault.1 (omega (arith, more, fine)) in cc)), same_file ∙ at)

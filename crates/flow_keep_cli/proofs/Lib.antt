@@ -4,3 +4,4 @@ pub mod Cuts
 pub mod Sessions
 pub mod Disks
 pub mod Courses
+pub mod Taken

@@ -1,5 +1,7 @@
 -- What a call is asked for, and why it is refused before the disk is touched.
-use Rattle.std.specs.Prelude.{◌≡◌, ◌⊎◌, ℕ, List, [], Option}
+use Rattle.std.specs.Prelude.{◌≡◌, ◌⊎◌, ◌+◌, ℕ, List, [], Option}
+use Rattle.flow_model.specs.declared.limits.TheConstants.{GREATEST_INPUT}
+use Rattle.flow_io.specs.Source.{LosesCount}
 use Rattle.flow_form.specs.Script.{Said}
 use Rattle.flow_form.specs.Names.{event_names}
 use Rattle.flow_workflow.specs.Definition.{Definition}
@@ -11,15 +13,15 @@ use Rattle.flow_front.specs.declared.status.Status.{Status}
 use Rattle.flow_front.specs.declared.status.Status.TheVariants as front
 use Rattle.flow_front.specs.Status.{Tells}
 use Rattle.flow_front.specs.Refusal.{the_source, the_session, IsCause}
-use Rattle.flow_front.specs.Input.{IsInputOf}
+use Rattle.flow_front.specs.Input.{IsInputOf, IsReadWhole}
 use Rattle.flow_front.specs.Prepared.{IsPrepared, IsNotPrepared}
 use Rattle.flow_keep_cli.specs.declared.asked.Looked.{Looked}
 use Rattle.flow_keep_cli.specs.declared.asked.Looked.TheVariants as looked
 use Rattle.flow_keep_cli.specs.declared.status.KeepStatus.{KeepStatus}
 use Rattle.flow_keep_cli.specs.declared.status.KeepStatus.TheVariants as ending
-use Rattle.flow_keep_cli.specs.Lines.{words_text}
+use Rattle.flow_keep_cli.specs.Lines.{words_text, help_text}
 use Rattle.flow_keep_cli.specs.Status.{status_of}
-use Rattle.flow_keep_cli.specs.Words.{IsCall, IsNoCall}
+use Rattle.flow_keep_cli.specs.Words.{IsHelp, IsCall, IsNoCall}
 
 -- the text is the session, what is said is that workflow, and it is compiled, so some execution of it meets every constraint
 pub record IsAskedIn (s : Said) (text : List ℕ) (w : Definition) (c : Compilation) (session : List Command) : Type 0 where
@@ -59,6 +61,17 @@ abbrev pub IsOfFault : Looked → Type 0
 IsOfFault (looked.Ready asked) = ⊥
 IsOfFault (looked.Refused output) = output.status ≡ front.ReadFault
 
+-- what is read of a source: all of it, or where its input is too long one byte more than may be
+abbrev pub IsTaken : Option (List ℕ) → Option (List ℕ) → Type 0
+IsTaken left left' = IsReadWhole left left' ⊎ LosesCount left left' (GREATEST_INPUT + 1)
+
+-- all of it is read, but where the input is too long, or the source failed
+abbrev pub IsTakenBy : Option (List ℕ) → Option (List ℕ) → Looked → Type 0
+IsTakenBy left left' (looked.Ready asked) = IsReadWhole left left'
+IsTakenBy left left' (looked.Refused output) =
+    IsReadWhole left left'
+    ⊎ (((output.status ≡ front.Refused) × LosesCount left left' (GREATEST_INPUT + 1)) ⊎ (output.status ≡ front.ReadFault))
+
 -- a session of a workflow, kept in the file of that path, in so many steps at most
 pub record Wanted : Type 0 where
   pub path : List ℕ
@@ -68,12 +81,14 @@ pub record Wanted : Type 0 where
 
 -- the words and the source ask for it
 pub record IsWanted (words : List (List ℕ)) (source : Option (List ℕ)) (wanted : Wanted) : Type 0 where
+  pub no_help : ¬ (IsHelp words)
   pub call : IsCall words wanted.path wanted.steps
   pub compiled : Compilation
   pub asked : IsAskedBy source wanted.workflow compiled wanted.commands
 
--- the words are no call, or the source is refused, with this status and this text
-abbrev pub IsRefused : List (List ℕ) → Option (List ℕ) → KeepStatus → List ℕ → Type 0
-IsRefused words source status text =
-    (IsNoCall words × (status ≡ ending.Words) × (text ≡ words_text))
-    ⊎ ((path : List ℕ) × ((steps : ℕ) × IsCall words path steps × ((of : Status) × (status ≡ status_of of) × IsRefusedBy source of text)))
+-- the words ask for help, or are no call, or the source is refused, with this status and this text
+abbrev pub NeedsNoDisk : List (List ℕ) → Option (List ℕ) → KeepStatus → List ℕ → Type 0
+NeedsNoDisk words source status text =
+    (IsHelp words × (status ≡ ending.Fine) × (text ≡ help_text))
+    ⊎ ((¬ (IsHelp words)) × ((IsNoCall words × (status ≡ ending.Words) × (text ≡ words_text))
+    ⊎ ((path : List ℕ) × ((steps : ℕ) × IsCall words path steps × ((of : Status) × (status ≡ status_of of) × IsRefusedBy source of text)))))

@@ -26,10 +26,11 @@ abbrev pub Goes : Run → List Command → Run → Type 0
 Goes r [] after = after ≡ r
 Goes r (command ∷ commands) after = (answer : Answer) × ((next : Run) × Answers r driver command answer next × Goes next commands after)
 
--- the file keeps what the first so many commands, or some more of them, make of the run
+-- the file keeps what the first so many commands, or one more, make of the run
 pub record KeepsSome (first : Run) (commands : List Command) (least : ℕ) (file : List ℕ) : Type 0 where
   pub count : ℕ
   pub from : least ≤ count
+  pub soon : count ≤ least + 1
   pub within : count ≤ length commands
   pub last : Run
   pub goes : Goes first (take count commands) last
@@ -49,7 +50,7 @@ abbrev pub driven_report : Run → List ℕ
 driven_report r = report_of r (drive_verdict (schema r) r.limit r.history)
 
 -- The session was cut short: so many commands were replied to whole, what stands behind their replies is no whole reply, and a crash now
--- leaves a file that keeps what at least as many commands make of the run.
+-- leaves a file that keeps what these commands, or these and the next one, make of the run.
 pub record IsCut (first : Run) (commands : List Command) (IsBehind : Run → ℕ → List ℕ → Type 0) (front : List ℕ)
     (held held' : Option (List ℕ)) (tells : Type 0) (images : List ℕ → Type 0) : Type 0 where
   pub done : ℕ

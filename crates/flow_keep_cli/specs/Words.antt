@@ -1,5 +1,5 @@
 -- What the words of a call ask for: a path, and how many steps a history may have.
-use Rattle.std.specs.Prelude.{◌≡◌, ◌≤◌, ℕ, List, [], ◌∷◌, length, codes}
+use Rattle.std.specs.Prelude.{◌≡◌, ◌≤◌, ℕ, List, [], ◌∷◌, length, slice_get, Some, codes}
 use Rattle.std.specs.Str.Parse.{IsNumeral, digits_value}
 use Rattle.flow_model.specs.declared.limits.TheConstants.{MOST_ENTRIES}
 
@@ -13,6 +13,10 @@ pub record IsSteps (word : List ℕ) (steps : ℕ) : Type 0 where
   pub short : length word ≤ 10
   pub value : steps ≡ digits_value 10 word
   pub within : IsStepCount steps
+
+-- the word behind the program's name asks for help
+abbrev pub IsHelp : List (List ℕ) → Type 0
+IsHelp words = slice_get words 1 ≡ Some (codes "--help")
 
 -- how many they are where the words do not say so
 abbrev pub default_steps : ℕ

@@ -22,6 +22,7 @@ pub fn serve<D: Disk>(keep: &mut Keep<D>, command: &Command) -> Result<Answer, D
     requires whole { is_broken keep.old ≡ false }
     ensures cause { CountsFault (D.faults (disk_of keep.old)) (D.faults (disk_of keep.new)) result }
     ensures unbroken { OnOk result (is_broken keep.new ≡ false) }
+    ensures same_file { D.chosen (disk_of keep.new) ≡ D.chosen (disk_of keep.old) }
     ensures answers { IfOk result (λ answer. Answers (run_of keep.old) driver command.now answer (run_of keep.new)) }
     ensures kind { IfOk result (IsAnswerTo command.now) }
     ensures kept { D.tells → OnOk result ((c : List ℕ) → D.image (disk_of keep.new) (D.moment (disk_of keep.new)) c

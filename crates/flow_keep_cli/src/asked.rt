@@ -2,7 +2,7 @@ ghost use Rattle.std.specs.Prelude.{◌≡◌, ◌<◌, ◌-◌, ◌^◌, ◌↔
 ghost use Rattle.flow_form.specs.Script.{said};
 ghost use Rattle.flow_form.specs.Names.{IsClosed};
 ghost use Rattle.flow_front.specs.Stop.{IsStop};
-ghost use Rattle.flow_keep_cli.specs.Asked.{IsAskedIn, IsNotAskedIn, IsLookedIn, IsLooked, IsOfFault};
+ghost use Rattle.flow_keep_cli.specs.Asked.{IsAskedIn, IsNotAskedIn, IsLookedIn, IsLooked, IsOfFault, IsTakenBy};
 
 use flow_front::{Input, Output, Prepared, Stop, prepare, read_input, refuse};
 use flow_io::Source;
@@ -57,10 +57,12 @@ fn look_in(alloc: Global, input: &Input) -> Result<Looked, AllocError>
 }
 
 /// What a source asks for, or why it is refused, in words.
+#[tactic(auto, using(crate::proofs::Taken::taken_whole, crate::proofs::Taken::taken_stopped))]
 pub(crate) fn look<S: Source>(alloc: Global, source: &mut S) -> Result<Looked, AllocError>
     requires { S.faults source.old < 2 ^ 64 - 1 }
     ensures looked { IfOk result (IsLooked (S.left source.old)) }
     ensures fault { IfOk result (λ looked. IsOfFault looked ↔ (S.faults source.old < S.faults source.new)) }
+    ensures taken { IfOk result (IsTakenBy (S.left source.old) (S.left source.new)) }
 {
     match read_input(alloc, source) {
         Ok(input) => {

@@ -3,7 +3,7 @@ ghost use Rattle.flow_plan.specs.Compilation.{IsCompiled};
 ghost use Rattle.flow_keep_cli.specs.Words.{IsStepCount};
 ghost use Rattle.flow_workflow.specs.Definition.{schema_of};
 ghost use Rattle.flow_keep.specs.Holding.{run_of, disk_of, is_broken};
-ghost use Rattle.flow_keep_cli.specs.Course.{run_from, IsFound, IsSafe, IsHindered};
+ghost use Rattle.flow_keep_cli.specs.Course.{run_from, IsAt, IsFound, IsSafe, IsHindered};
 
 use crate::words::Call;
 use flow_disk::Disk;
@@ -61,10 +61,11 @@ pub(crate) fn begin<D: Disk>(
     ensures found { IfOk result (λ keep. IsFound D.tells (D.seen disk) workflow call.entry.steps (run_of keep).history) }
     ensures whole { IfOk result (λ keep. is_broken keep ≡ false) }
     ensures no_fault { IfOk result (λ keep. D.faults (disk_of keep) ≡ D.faults disk) }
-    ensures begun { IfOk result (λ keep. IsSafe D.tells D.moment D.image D.synced D.seen D.faults disk (disk_of keep)) }
-    ensures hindered { IfErr result (λ hindered. IsHindered D.tells D.moment D.image D.synced D.seen D.faults
-        workflow call.entry.steps disk hindered.why hindered.disk) }
-    ensures safe { IfErr result (λ hindered. IsSafe D.tells D.moment D.image D.synced D.seen D.faults disk hindered.disk) }
+    ensures file { IfOk result (λ keep. IsAt D.tells D.moment D.image D.synced D.seen D.faults D.chosen D.file_at call.entry.path.now (disk_of keep)) }
+    ensures begun { IfOk result (λ keep. IsSafe D.tells D.moment D.image D.synced D.seen D.faults D.chosen D.file_at disk (disk_of keep)) }
+    ensures hindered { IfErr result (λ hindered. IsHindered D.tells D.moment D.image D.synced D.seen D.faults D.chosen D.file_at
+        call.entry.path.now workflow call.entry.steps disk hindered.why hindered.disk) }
+    ensures safe { IfErr result (λ hindered. IsSafe D.tells D.moment D.image D.synced D.seen D.faults D.chosen D.file_at disk hindered.disk) }
 {
     let mut disk = disk;
     let Ok(()) = disk.open(call.path) else {

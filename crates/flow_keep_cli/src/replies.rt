@@ -35,6 +35,7 @@ pub fn reply_to_all<K: Sink, D: Disk>(
     requires whole { is_broken keep.old ≡ false }
     ensures cause { CountsCut (D.faults (disk_of keep.old)) (D.faults (disk_of keep.new)) (K.faults sink.old) (K.faults sink.new) result }
     ensures unbroken { OnOk result (is_broken keep.new ≡ false) }
+    ensures same_file { D.chosen (disk_of keep.new) ≡ D.chosen (disk_of keep.old) }
     ensures replies { OnOk result ((text : List ℕ) × Drives (run_of keep.old) driver commands.now text (run_of keep.new)
         × Appends (K.held sink.old) (K.held sink.new) text) }
     ensures cut { IfErr result (λ cut. IsCut (run_of keep.old) commands.now (BehindReplies commands.now cut) []

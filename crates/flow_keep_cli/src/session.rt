@@ -47,6 +47,7 @@ fn drive<K: Sink, D: Disk>(
         D.tells (D.image (disk_of keep.new) (D.moment (disk_of keep.new)))
         ⊎ IsWhole (run_of keep.old) commands.now [] result (K.held sink.old) (K.held sink.new)
         D.tells (D.seen (disk_of keep.new)) (D.image (disk_of keep.new) (D.moment (disk_of keep.new))) }
+    ensures same_file { D.chosen (disk_of keep.new) ≡ D.chosen (disk_of keep.old) }
     ensures write_fault { (result ≡ KeepStatus.WriteFault) ↔ (K.faults sink.old < K.faults sink.new) }
     ensures disk_fault { result ≡ KeepStatus.Disk → D.faults (disk_of keep.old) < D.faults (disk_of keep.new) }
     ensures disk_fault_told { D.faults (disk_of keep.old) < D.faults (disk_of keep.new)
@@ -75,6 +76,7 @@ pub(crate) fn go_on<K: Sink, D: Disk>(
         (K.held sink.old) (K.held sink.new) D.tells (D.image (disk_of keep.new) (D.moment (disk_of keep.new)))
         ⊎ IsWhole (run_of keep.old) commands.now (kept_line (length (run_of keep.old).history)) result (K.held sink.old) (K.held sink.new)
         D.tells (D.seen (disk_of keep.new)) (D.image (disk_of keep.new) (D.moment (disk_of keep.new)))) }
+    ensures same_file { D.chosen (disk_of keep.new) ≡ D.chosen (disk_of keep.old) }
     ensures write_fault { (result ≡ KeepStatus.WriteFault) ↔ (K.faults sink.old < K.faults sink.new) }
     ensures disk_fault { result ≡ KeepStatus.Disk → D.faults (disk_of keep.old) < D.faults (disk_of keep.new) }
     ensures disk_fault_told { D.faults (disk_of keep.old) < D.faults (disk_of keep.new)

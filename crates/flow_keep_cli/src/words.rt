@@ -1,6 +1,6 @@
-ghost use Rattle.std.specs.Prelude.{◌≡◌, map, MatchOption, ℕ, IfSome};
+ghost use Rattle.std.specs.Prelude.{◌≡◌, ◌↔◌, map, MatchOption, ℕ, IfSome, IsTrue};
 ghost use Rattle.std.specs.String.{string_bytes};
-ghost use Rattle.flow_keep_cli.specs.Words.{IsStepCount, IsSteps, IsCall, IsNoCall};
+ghost use Rattle.flow_keep_cli.specs.Words.{IsStepCount, IsSteps, IsHelp, IsCall, IsNoCall};
 
 use flow_model::MOST_ENTRIES;
 
@@ -13,6 +13,16 @@ pub(crate) struct Call<'a> {
     pub(crate) path: &'a str,
     /// The greatest length of the history.
     pub(crate) steps: u32,
+}
+
+/// Whether the words ask for help.
+pub(crate) fn asks_for_help(words: &[String]) -> bool
+    ensures { IsTrue result ↔ IsHelp (map (λ word. string_bytes word) words.now) }
+{
+    match words.get(1) {
+        Some(word) => word.as_str() == "--help",
+        None => false,
+    }
 }
 
 /// What the words ask for, if they are a call.

@@ -1,6 +1,6 @@
 //! Rows of kept runs: the call, and the same call stopped at each call of its disk.
 
-use crate::rows::Row;
+use crate::rows::{CALLS, Row};
 use anyhow::{Context, Result, bail};
 use flow_disk::MemDisk;
 use flow_keep_cli::flowkeep;
@@ -9,8 +9,6 @@ use test_doubles::{MemSink, MemSource};
 
 /// Bytes for all writes of a row's session.
 const POOL: usize = 65_536;
-/// More calls of the disk than any row makes.
-const CALLS: u32 = 4_000;
 /// The status of a call whose disk failed.
 const DISK: u8 = 8;
 /// The words with which replies begin that tell of an entry.
@@ -70,7 +68,7 @@ fn call(
 
 /// The call that a row describes.
 pub(crate) fn call_of(alloc: Global, words: &[String], row: &Row<'_>) -> Result<KeptCall> {
-    call(alloc, words, &row.input, &row.before, CALLS, row.room)
+    call(alloc, words, &row.input, &row.before, row.stop_at, row.room)
 }
 
 /// The workflow of an input, with no session.
@@ -117,6 +115,14 @@ fn acknowledged(written: &str) -> u32 {
     count
 }
 
+/// Whether the call says that the disk failed: in its first call, which chooses the file, or in a later one.
+fn says_what_failed(written: &str, stop_at: u32) -> bool {
+    match stop_at {
+        0 => written == "refused: open\n",
+        _ => written.ends_with("refused: disk\n"),
+    }
+}
+
 /// Whether each image that is tried of what a crash may leave, opened again, has a front of the history, and every entry that was told.
 fn each_image_goes_on(
     alloc: Global,
@@ -157,6 +163,9 @@ pub(crate) fn stands_when_stopped(
         let run = call(alloc, words, &row.input, &row.before, stop_at, row.room)?;
         if run.status != DISK {
             return Ok(true);
+        }
+        if !says_what_failed(run.text()?, stop_at) {
+            return Ok(false);
         }
         if !each_image_goes_on(alloc, words, workflow, &run, history, row.room)? {
             return Ok(false);

@@ -13,8 +13,8 @@ use std::alloc::Global;
 /// the lines of the output
 /// ```
 ///
-/// Behind the status may stand how many bytes can be written. A row of `flowkeep` goes on by what the disk holds before
-/// the call, and after it, in hexadecimal bytes:
+/// Behind the status may stand how many bytes can be written, and behind that the number of the call from which on the
+/// disk fails. A row of `flowkeep` goes on by what the disk holds before the call, and after it, in hexadecimal bytes:
 ///
 /// ```text
 /// ---
@@ -33,6 +33,8 @@ pub(crate) struct Row<'a> {
     pub(crate) status: u8,
     /// How many bytes can be written.
     pub(crate) room: usize,
+    /// The number of the first call of the disk that fails.
+    pub(crate) stop_at: u32,
     pub(crate) input: Vec<u8>,
     pub(crate) output: Vec<u8>,
     /// The bytes on the disk before the call, and after it.
@@ -42,6 +44,8 @@ pub(crate) struct Row<'a> {
 
 /// More bytes than any row writes.
 const ROOM: usize = 300_000;
+/// More calls of the disk than any row makes.
+pub(crate) const CALLS: u32 = 4_000;
 
 /// The lines of a text, each as its pieces say.
 fn bytes_of(alloc: Global, text: &str) -> Result<Vec<u8>> {
@@ -61,12 +65,19 @@ fn hexadecimal(alloc: Global, text: &str) -> Result<Vec<u8>> {
     Ok(bytes)
 }
 
-/// A status, and how many bytes can be written.
-fn ending(line: &str) -> Result<(u8, usize)> {
-    match line.split_once(" ") {
-        None => Ok((line.parse::<u8>()?, ROOM)),
-        Some((status, room)) => Ok((status.parse::<u8>()?, room.parse::<usize>()?)),
-    }
+/// A status, how many bytes can be written, and which call of the disk is the first that fails.
+fn ending(line: &str) -> Result<(u8, usize, u32)> {
+    let mut words = line.split_whitespace();
+    let status = words.next().context("a row without a status")?;
+    let room = match words.next() {
+        Some(room) => room.parse::<usize>()?,
+        None => ROOM,
+    };
+    let stop_at = match words.next() {
+        Some(stop_at) => stop_at.parse::<u32>()?,
+        None => CALLS,
+    };
+    Ok((status.parse::<u8>()?, room, stop_at))
 }
 
 impl<'a> Row<'a> {
@@ -77,13 +88,14 @@ impl<'a> Row<'a> {
         let (name, given) = given.split_once("\n").context("a row without a name")?;
         let (words, given) = given.split_once("\n").context("a row without words")?;
         let (status, given) = given.split_once("\n").context("a row without a status")?;
-        let (status, room) = ending(status)?;
+        let (status, room, stop_at) = ending(status)?;
         let output = parts.next().context("a row without ---")?;
         Ok(Row {
             name,
             words,
             status,
             room,
+            stop_at,
             input: bytes_of(alloc, given)?,
             output: bytes_of(alloc, output)?,
             before: hexadecimal(alloc, parts.next().unwrap_or(""))?,

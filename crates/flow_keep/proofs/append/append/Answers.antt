@@ -1,6 +1,6 @@
 use Rattle.std.proofs.Common.{◌∙◌, sym}
 use Rattle.flow_keep.proofs.MomentLemmas.{goes_on_same}
-use Rattle.flow_keep.proofs.AppendCalls.{after_record, with_record, after_gate, with_gate, is_kept, is_settled}
+use Rattle.flow_keep.proofs.AppendCalls.{after_record, with_record, after_gate, with_gate, gains, is_kept, is_settled}
 use Rattle.flow_keep.proofs.append.append.Goals as goal
 
 pub returns-in_default-clause-any_moment : goal.returns-in_default-clause-any_moment
@@ -42,6 +42,12 @@ returns-clause-kept g c = λ told.
     let there = c.in-Ok-sync.ensures.seen told ∙ with_record g.D.Disk.moment g.D.Disk.image g.D.Disk.seen c.args.disk.now c.args.count c.args.body.now c.with_gate-record.result (c.requires.settled told) (c.requires.place told) c.with_gate-record.ensures c.requires.size c.write_at.new.self (c.in-Ok.ensures.written told) in
     let open_now = with_gate g.D.Disk.moment g.D.Disk.image g.D.Disk.seen c.args.disk.now c.args.count c.args.body.now c.with_gate-record.result (c.requires.settled told) (c.requires.place told) c.with_gate-record.ensures c.requires.size c.sync.new.self c.write_at-2.new.self there (c.in-Ok-write_at.ensures.written told) in
     is_kept g.D.Disk.moment g.D.Disk.image g.D.Disk.seen c.args.disk.now c.args.count c.args.body.now c.with_gate-record.result (c.requires.settled told) (c.requires.place told) c.with_gate-record.ensures c.requires.size c.sync-2.new.self (c.in-Ok-sync-2.ensures.seen told ∙ open_now)
+
+pub returns-clause-gains : goal.returns-clause-gains
+returns-clause-gains g c = λ told.
+    let there = c.in-Ok-sync.ensures.seen told ∙ with_record g.D.Disk.moment g.D.Disk.image g.D.Disk.seen c.args.disk.now c.args.count c.args.body.now c.with_gate-record.result (c.requires.settled told) (c.requires.place told) c.with_gate-record.ensures c.requires.size c.write_at.new.self (c.in-Ok.ensures.written told) in
+    let open_now = with_gate g.D.Disk.moment g.D.Disk.image g.D.Disk.seen c.args.disk.now c.args.count c.args.body.now c.with_gate-record.result (c.requires.settled told) (c.requires.place told) c.with_gate-record.ensures c.requires.size c.sync.new.self c.write_at-2.new.self there (c.in-Ok-write_at.ensures.written told) in
+    gains g.D.Disk.moment g.D.Disk.image g.D.Disk.seen c.args.disk.now c.args.count c.args.body.now c.with_gate-record.result (c.requires.settled told) (c.requires.place told) c.with_gate-record.ensures c.requires.size c.sync-2.new.self (c.in-Ok-sync-2.ensures.seen told ∙ open_now)
 
 pub returns-clause-settled : goal.returns-clause-settled
 returns-clause-settled g c = λ told.

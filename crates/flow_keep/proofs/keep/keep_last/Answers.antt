@@ -10,7 +10,7 @@ use Rattle.flow_keep.specs.Kept.{KeepsEither}
 use Rattle.flow_keep.specs.Records.{body_of}
 use Rattle.flow_keep.proofs.MomentLemmas.{weaker}
 use Rattle.flow_laws.proofs.SoundStates.{legal_length}
-use Rattle.flow_keep.proofs.LastEntry.{all_small, all_kept, either_kept}
+use Rattle.flow_keep.proofs.LastEntry.{all_small, all_kept, either_kept, gains_last, gains_nothing}
 use Rattle.flow_keep.proofs.keep.keep_last.Goals as goal
 
 pub append-requires-clause-room : goal.append-requires-clause-room
@@ -66,3 +66,17 @@ returns-clause-any_moment g c = λ told.
     let one : length history ≡ c.args.count + 1 = one_more c.args.core.now c.args.count _ c.history-history.ensures.entries c.requires.counted c.requires.one c.if-history-count.false in
     weaker g.D.Disk.moment g.D.Disk.image c.args.disk.now c.append.new.disk _ (KeepsEither (take c.args.count history) history)
     (either_kept history c.args.count first_entry _ c.body_of-body.result one is (c.requires.kept told).keeps) (c.append.ensures.any_moment told)
+
+pub returns-then-history-count-clause-gains : goal.returns-then-history-count-clause-gains
+returns-then-history-count-clause-gains g c = λ told.
+    let same = ap (λ (l : List Entry). length l) c.history-history.ensures.entries in
+    let even : length c.args.core.now.history ≤ c.args.count = omega arith in
+    gains_nothing c.args.core.now.history c.args.count _ _ even
+
+pub returns-clause-gains : goal.returns-clause-gains
+returns-clause-gains g c = λ told.
+    let history = c.args.core.now.history in
+    let is : c.body_of-body.result ≡ body_of (get_or history c.args.count first_entry) =
+    c.body_of-body.ensures.bytes ∙ ap (λ (l : List Entry). body_of (get_or l c.args.count first_entry)) c.history-history.ensures.entries in
+    let one : length history ≡ c.args.count + 1 = one_more c.args.core.now c.args.count _ c.history-history.ensures.entries c.requires.counted c.requires.one c.if-history-count.false in
+    both c.append.result c.append.ensures.gains c.append.ensures.gains (λ gains more. gains_last history c.args.count first_entry c.body_of-body.result _ _ one is (gains told))

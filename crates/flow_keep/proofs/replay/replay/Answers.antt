@@ -65,6 +65,7 @@ loop-index-preserved g c =
     let small : IsSmall entry = subst HoldsSmall c.in-Holds.is c.in-Ok.ensures.small in
     record {
       same = c.in-Ok.ensures.cause ∙ i.same;
+      file = c.in-Ok.ensures.same_file ∙ i.file;
       definition = ap (λ (r : Run). r.definition) made ∙ i.definition;
       limit = ap (λ (r : Run). r.limit) made ∙ i.limit;
       small = subst (Each IsSmall) (sym longer) (each-append IsSmall c.loop-index.core.history (entry ∷ []) i.small (small, tt));

@@ -8,6 +8,7 @@ use Rattle.flow_keep.proofs.replay.replay.Given as goal
 abbrev pub invariant-loop-index : goal.invariant-loop-index
 invariant-loop-index g l = record {
   same : g.D.Disk.faults l.disk ≡ g.D.Disk.faults l.fn.disk;
+  file : g.D.Disk.chosen l.disk ≡ g.D.Disk.chosen l.fn.disk;
   definition : l.core.definition ≡ l.fn.core.definition;
   limit : l.core.limit ≡ l.fn.core.limit;
   small : Each IsSmall l.core.history;

@@ -12,6 +12,7 @@ loop-count-preserved g c =
     let i = c.loop-count.invariant in
     record {
       same = c.in-Ok.ensures.cause ∙ i.same;
+      file = c.in-Ok.ensures.same_file ∙ i.file;
       size = search rules;
       within = search rules;
       rests = λ told. rests_then _ _ _ _ _ _ _ _ _ _ _ _ (i.rests told) (c.in-Ok.ensures.rests told);

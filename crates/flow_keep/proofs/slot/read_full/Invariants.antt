@@ -5,6 +5,7 @@ use Rattle.flow_keep.proofs.slot.read_full.Given as goal
 abbrev pub invariant-loop-count : goal.invariant-loop-count
 invariant-loop-count g l = record {
   same : g.D.Disk.faults l.disk ≡ g.D.Disk.faults l.fn.disk;
+  file : g.D.Disk.chosen l.disk ≡ g.D.Disk.chosen l.fn.disk;
   size : length l.buf ≡ length l.fn.buf;
   within : l.count ≤ length l.buf;
   rests : g.D.Disk.tells → Rests (g.D.Disk.moment l.fn.disk) (g.D.Disk.moment l.disk) (g.D.Disk.seen l.fn.disk) (g.D.Disk.seen l.disk)

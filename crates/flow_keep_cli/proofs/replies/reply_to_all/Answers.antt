@@ -45,6 +45,7 @@ loop-command-preserved g c =
     let more = subst (λ (l : List ℕ). Appends (g.K.Sink.held c.loop-command.sink) (g.K.Sink.held c.write_all.new.sink) l) c.deref.ensures.value c.in-Ok-write_all.ensures.all in
     record {
       disk = c.in-Ok.ensures.cause ∙ i.disk;
+      file = c.in-Ok.ensures.same_file ∙ i.file;
       sink = search rules;
       whole = c.in-Ok.ensures.unbroken;
       so_far = (

@@ -1,4 +1,4 @@
-use Rattle.flow_disk.proofs.ChangeLemmas.{tore_passes, tore_no_sync, tore_replays}
+use Rattle.flow_disk.proofs.ChangeLemmas.{tore_passes, tore_tears, tore_no_sync, tore_replays}
 use Rattle.flow_disk.proofs.change_log.ChangeLog.tear.Goals as goal
 
 pub invariant_of-self : goal.invariant_of-self
@@ -21,3 +21,8 @@ pub returns-then-len-capacity-clause-syncs : goal.returns-then-len-capacity-clau
 returns-then-len-capacity-clause-syncs c =
     let old = c.args.self.now in
     tore_no_sync old.first.items old.pool.items old.shown.items old.changes.items c.push_reserved.new.self.items old.replays c.args.at c.args.count c.requires c.push_reserved.ensures.items
+
+pub returns-then-len-capacity-clause-torn : goal.returns-then-len-capacity-clause-torn
+returns-then-len-capacity-clause-torn c = λ place.
+    let old = c.args.self.now in
+    tore_tears old.first.items old.pool.items old.shown.items old.changes.items c.push_reserved.new.self.items old.replays c.args.at c.args.count c.requires c.push_reserved.ensures.items
