@@ -1,5 +1,5 @@
 -- Each claim of a run is left to its taker, entry by entry; so duties are kept.
-use Rattle.std.proofs.Common.{◌≡◌, ℕ, List, [], ◌∷◌, ◌++◌, Some, inl, inr, refl, sym, ap, ◌∙◌, subst, append-nil}
+use Rattle.std.proofs.Common.{◌≡◌, ℕ, Bool, true, false, IsTrue, List, [], ◌∷◌, ◌++◌, Some, inl, inr, refl, sym, ap, ◌∙◌, subst, append-nil}
 use Rattle.flow_model.specs.declared.history.Entry.{Entry}
 use Rattle.flow_model.specs.declared.history.Step.{Step}
 use Rattle.flow_model.specs.declared.history.Step.TheVariants.{Took, Done, Failed, Late, Did, Rewound, Committed}
@@ -20,6 +20,7 @@ use Rattle.flow_core.specs.Ask.{ComesOf, GrowsAtMost}
 use Rattle.flow_core.specs.Lawful.{IsLawful}
 use Rattle.flow_roles.specs.Desked.{Desked, KeepsDuties}
 use Rattle.flow_roles.specs.Answers.{IsLeftTo}
+use Rattle.flow_roles.specs.Ask.{IsLeftFor}
 
 abbrev pub took_by : ℕ → ℕ → ℕ → Entry
 took_by by claim leaf = record { by = by; step = Took claim leaf }
@@ -79,6 +80,19 @@ took_dutiful d leaf by event number after at left dutiful is =
     left_then claim n e took at_n =
         let same : leaf ≡ n = cc in
         subst (λ (x : ℕ). IsLeftTo d by x) (some_same event e (sym at ∙ ap (λ (x : ℕ). event_at (schema d.run).labels x) same ∙ at_n)) left
+
+-- an entry that duties leave to its caller is made, or nothing is
+pub made_dutiful : (d : Desked) (by : ℕ) (step : Step) (made : Bool) (after : Run) → IsLeftFor d by step → (IsTrue made → after ≡ with_entry d.run by step) →
+    (made ≡ false → after ≡ d.run) → IsDutiful (schema d.run) d.assigned.duties d.run.history → IsDutiful (schema after) d.assigned.duties after.history
+made_dutiful d by step false after left is stays dutiful = subst (λ (x : Run). IsDutiful (schema x) d.assigned.duties x.history) (sym (stays refl)) dutiful
+made_dutiful d by step true after left is stays dutiful =
+    subst (λ (x : Run). IsDutiful (schema x) d.assigned.duties x.history) (sym (is refl))
+    (one_more (schema d.run) d.assigned.duties d.run.history (record { by = by; step = step }) dutiful left_then)
+  where
+    left_then : (claim n e : ℕ) → step ≡ Took claim n → event_at (schema d.run).labels n ≡ Some e → IsLeftTo d by e
+    left_then claim n e took at_n =
+        let (event, at, free) = subst (λ (s : Step). IsLeftFor d by s) took left in
+        subst (λ (x : ℕ). IsLeftTo d by x) (some_same event e (sym at ∙ at_n)) free
 
 -- a state in which claims may follow has an execution before it
 consistent_at_first : (w : Schema) → IsSound w first_state → IsConsistent w

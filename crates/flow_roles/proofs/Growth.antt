@@ -6,18 +6,19 @@ use Rattle.flow_model.specs.declared.history.Step.TheVariants.{Late}
 use Rattle.flow_ask.specs.declared.ask.Ask.{Ask}
 use Rattle.flow_ask.specs.declared.ask.Ask.TheVariants as ask
 use Rattle.flow_ask.specs.declared.made.Made.{Made}
+use Rattle.flow_ask.specs.declared.made.Made.TheVariants as made
 use Rattle.flow_ask.specs.declared.refusal.Refusal.{Refusal}
 use Rattle.flow_core.specs.declared.refusal.TakeRefusal.{TakeRefusal}
 use Rattle.flow_core.specs.declared.refusal.PostRefusal.{PostRefusal}
 use Rattle.flow_core.specs.declared.refusal.PostRefusal.TheVariants as post
-use Rattle.flow_core.specs.Ask.{AnswersBy, ComesOf, GrowsAtMost}
+use Rattle.flow_core.specs.Ask.{AnswersBy, ComesOf, GrowsAtMost, of_take, of_do, of_post, of_rewind, of_commit}
 use Rattle.flow_core.proofs.Growth.{takes_grow, performs_grow, refused_grow, done_grow, failed_grow, rewinds_grow, commits_grow}
 use Rattle.flow_roles.specs.declared.refusal.Denied.TheVariants as denied
 use Rattle.flow_roles.specs.declared.refusal.DutyRefusal.{DutyRefusal}
 use Rattle.flow_roles.specs.declared.refusal.DutyRefusal.TheVariants as duty
 use Rattle.flow_roles.specs.Desked.{Desked}
-use Rattle.flow_roles.specs.Answers.{DeskTakes, DeskPostIsRefused, DeskPostsDone, DeskPostsFailed}
-use Rattle.flow_roles.specs.Ask.{DeskAnswers}
+use Rattle.flow_roles.specs.Answers.{DeskTakes, DeskPostIsRefused, DeskPostsDone, DeskPostsFailed, DeskPerforms, DeskRewinds, DeskCommits}
+use Rattle.flow_roles.specs.Ask.{DeskAnswers, of_duty}
 
 module _ (d after : Desked) where
   abbrev Grows : Ask → ℕ → Type 0
@@ -56,12 +57,12 @@ module _ (d after : Desked) where
   by_grows what by Table made_of refusal_of (Err refusal) grows (why, h, is) = grows (Err why) h
 
   desk_goes : (what : Ask) (by : ℕ) (a : Result Made Refusal) → DeskAnswers d what by a after → Grows what by
-  desk_goes (ask.Take leaf) by a h = by_grows (ask.Take leaf) by _ _ _ a (takes leaf by) h
-  desk_goes (ask.Do leaf) by a h = by_grows (ask.Do leaf) by _ _ _ a (λ came k. (performs_grow d.run after.run leaf by came k.0, k.1)) h
-  desk_goes (ask.Done claim) by a h = by_grows (ask.Done claim) by _ _ _ a (posts_done claim by) h
-  desk_goes (ask.Fail claim) by a h = by_grows (ask.Fail claim) by _ _ _ a (posts_failed claim by) h
-  desk_goes ask.Rewind by a h = by_grows ask.Rewind by _ _ _ a (λ came k. (rewinds_grow d.run after.run by came k.0, k.1)) h
-  desk_goes ask.Commit by a h = by_grows ask.Commit by _ _ _ a (λ came k. (commits_grow d.run after.run by came k.0, k.1)) h
+  desk_goes (ask.Take leaf) by a h = by_grows (ask.Take leaf) by (DeskTakes d leaf by) made.Claim (of_duty of_take) a (takes leaf by) h
+  desk_goes (ask.Do leaf) by a h = by_grows (ask.Do leaf) by (DeskPerforms d leaf by) (λ _. made.Did) of_do a (λ came k. (performs_grow d.run after.run leaf by came k.0, k.1)) h
+  desk_goes (ask.Done claim) by a h = by_grows (ask.Done claim) by (DeskPostsDone d claim by) (λ _. made.Done) (of_duty of_post) a (posts_done claim by) h
+  desk_goes (ask.Fail claim) by a h = by_grows (ask.Fail claim) by (DeskPostsFailed d claim by) made.Failed (of_duty of_post) a (posts_failed claim by) h
+  desk_goes ask.Rewind by a h = by_grows ask.Rewind by (DeskRewinds d by) made.Rewound of_rewind a (λ came k. (rewinds_grow d.run after.run by came k.0, k.1)) h
+  desk_goes ask.Commit by a h = by_grows ask.Commit by (DeskCommits d by) (λ _. made.Committed) of_commit a (λ came k. (commits_grow d.run after.run by came k.0, k.1)) h
 
   pub desk_grows : (what : Ask) (by : ℕ) (a : Result Made Refusal) → DeskAnswers d what by a after → GrowsAtMost d.run what by after.run
   desk_grows what by a h = (desk_goes what by a h).0
