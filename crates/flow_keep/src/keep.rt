@@ -7,17 +7,17 @@ ghost use Rattle.flow_keep.specs.Kept.{IsKept, KeepsEither, GainsRecord, small-p
 
 use crate::append::append;
 use crate::body::body_of;
-use flow_core::Core;
+use flow_core::{Asked, Core};
 use flow_disk::{Disk, DiskFailed};
 
-/// A run whose history is kept in a file: each entry is in the file before the call that made it answers.
+/// A run, or what stands over one, whose history is kept in a file: each entry is in the file before the call that made it answers.
 #[derive(Drop)]
-pub struct Keep<D: Disk> {
-    pub(crate) core: Core,
+pub struct Keep<D: Disk, R: Asked = Core> {
+    pub(crate) run: R,
     pub(crate) disk: D,
     pub(crate) broken: bool,
-    ghost small: { Each IsSmall core.history } by { small-prop core.history },
-    ghost kept: { D.tells → broken ≡ false → IsKept core.history (D.seen disk) (D.image disk (D.moment disk)) },
+    ghost small: { Each IsSmall (R.run run).history } by { small-prop (R.run run).history },
+    ghost kept: { D.tells → broken ≡ false → IsKept (R.run run).history (D.seen disk) (D.image disk (D.moment disk)) },
 }
 
 /// Keeps the last entry of a run, where it has more than so many.
@@ -45,18 +45,18 @@ pub(crate) fn keep_last<D: Disk>(disk: &mut D, core: &Core, count: usize) -> Res
     append(disk, count as u64, &body)
 }
 
-impl<D: Disk> Keep<D> {
+impl<D: Disk, R: Asked> Keep<D, R> {
     ghost use Rattle.flow_keep.specs.Holding.{run_of, disk_of, is_broken};
 
     /// The run.
     pub fn core(&self) -> &Core
-        ensures run { result.now ≡ run_of self.now }
-        ensures small { Each IsSmall (run_of self.now).history }
-        ensures seen { D.tells → is_broken self.now ≡ false → Keeps (run_of self.now).history (D.seen (disk_of self.now)) }
+        ensures run { result.now ≡ R.run (run_of self.now) }
+        ensures small { Each IsSmall (R.run (run_of self.now)).history }
+        ensures seen { D.tells → is_broken self.now ≡ false → Keeps (R.run (run_of self.now)).history (D.seen (disk_of self.now)) }
         ensures acknowledged { D.tells → is_broken self.now ≡ false → (c : List ℕ) →
-            D.image (disk_of self.now) (D.moment (disk_of self.now)) c → Keeps (run_of self.now).history c }
+            D.image (disk_of self.now) (D.moment (disk_of self.now)) c → Keeps (R.run (run_of self.now)).history c }
     {
-        &self.core
+        self.run.core()
     }
 
     /// Whether a call failed at the disk. From then on nothing is done any more.
@@ -66,30 +66,36 @@ impl<D: Disk> Keep<D> {
         self.broken
     }
 
-    /// The disk alone.
-    pub fn into_disk(self) -> D
-        ensures disk { result ≡ disk_of self }
-        ensures seen { D.tells → is_broken self ≡ false → Keeps (run_of self).history (D.seen result) }
-        ensures acknowledged { D.tells → is_broken self ≡ false → (c : List ℕ) →
-            D.image result (D.moment result) c → Keeps (run_of self).history c }
-    {
-        let Keep {
-            core,
-            disk,
-            broken: _,
-        } = self;
-        drop(core);
-        disk
-    }
-
     /// Finds at once what can be taken or done, so that the questions about this state cost little.
     pub fn look_ahead(&mut self)
-        ensures run { run_of self.new ≡ run_of self.old }
+        ensures same { R.is_same (run_of self.old) (run_of self.new) }
+        ensures run { R.run (run_of self.new) ≡ R.run (run_of self.old) }
+        ensures lasts { R.can_be_asked (run_of self.old) → R.can_be_asked (run_of self.new) }
         ensures disk { disk_of self.new ≡ disk_of self.old }
         ensures broken { is_broken self.new ≡ is_broken self.old }
         ensures acknowledged { D.tells → is_broken self.new ≡ false → (c : List ℕ) →
-            D.image (disk_of self.new) (D.moment (disk_of self.new)) c → Keeps (run_of self.new).history c }
+            D.image (disk_of self.new) (D.moment (disk_of self.new)) c → Keeps (R.run (run_of self.new)).history c }
     {
-        self.core.look_ahead();
+        self.run.look_ahead();
+    }
+}
+
+impl<D: Disk, R: Asked + Drop> Keep<D, R> {
+    ghost use Rattle.flow_keep.specs.Holding.{run_of, disk_of, is_broken};
+
+    /// The disk alone.
+    pub fn into_disk(self) -> D
+        ensures disk { result ≡ disk_of self }
+        ensures seen { D.tells → is_broken self ≡ false → Keeps (R.run (run_of self)).history (D.seen result) }
+        ensures acknowledged { D.tells → is_broken self ≡ false → (c : List ℕ) →
+            D.image result (D.moment result) c → Keeps (R.run (run_of self)).history c }
+    {
+        let Keep {
+            run,
+            disk,
+            broken: _,
+        } = self;
+        drop(run);
+        disk
     }
 }

@@ -113,7 +113,7 @@ impl<D: Disk> Keep<D> {
         };
         match restore(&mut disk, &mut core) {
             Ok(()) => Ok(Keep {
-                core,
+                run: core,
                 disk,
                 broken: false,
             }),

@@ -1,3 +1,6 @@
+ghost use Rattle.std.specs.Prelude.{◌≡◌};
+
+use flow_ask::Refusal;
 use std::fmt::Display;
 use thiserror::Error;
 
@@ -13,6 +16,20 @@ pub enum KeptRefusal<R> {
     /// The run has the entry, and the file may have it or not.
     #[error("the disk failed")]
     DiskFault,
+}
+
+impl From<KeptRefusal<Refusal>> for Refusal {
+    ghost use Rattle.flow_keep.specs.Answered.{of_kept};
+
+    ghost from_gives = { λ refusal told. told ≡ of_kept refusal };
+
+    fn from(refusal: KeptRefusal<Refusal>) -> Refusal {
+        match refusal {
+            KeptRefusal::Broken => Refusal::Broken,
+            KeptRefusal::Core(refusal) => refusal,
+            KeptRefusal::DiskFault => Refusal::Disk,
+        }
+    }
 }
 
 /// Why no run is made of a file.
