@@ -280,7 +280,7 @@ def calls_on(path, workflow, lines):
             opened = re.search(r'"([^"]*)", ([A-Z_|]+)', words)
             names[came] = {str(path): "file", str(path.parent): "folder"}.get(opened[1])
             if names[came]:
-                calls.append(f"open {names[came]} {opened[2].replace('|O_CLOEXEC', '')}")
+                calls.append(f"open {names[came]} {re.sub('[|]O_(NOCTTY|CLOEXEC)', '', opened[2])}")
             continue
         number, *rest = words.split(", ")
         which = names.get(int(number)) if number.isdigit() else None
@@ -334,8 +334,10 @@ def try_two(folder):
         # its answer is more than the pipe holds, so it waits, and has the file
         first = subprocess.Popen([KEEP, str(path)], stdin=source, stdout=subprocess.PIPE, stderr=subprocess.DEVNULL)
     first.stdout.read(6)
-    time.sleep(1)
-    kept = path.read_bytes()
+    kept = b""
+    while kept != path.read_bytes():
+        kept = path.read_bytes()
+        time.sleep(0.5)
     if kept_by(path, RETRIED, [])[:2] != (8, b"refused: open\n") or path.read_bytes() != kept:
         wrong("two: the second process was not refused, or changed the file")
     first.stdout.read()

@@ -142,7 +142,7 @@ module _ (seen : List ℕ) (bodies : List (List ℕ)) (all : AreBodies bodies) (
       let sixteen : length (body ++ 0 ∷ []) ≡ 16 = omega (arith, fifteen, length-append body (0 ∷ [])) in
       let first : take (16 * count) seen ≡ blocks bodies = ap (take (16 * count)) s.split ∙ take_at (blocks bodies) (s.gate ∷ s.behind) (16 * count) size in
       let last : drop (16 * count + length line) seen ≡ behind = tail_is (16 * count + length line) (omega (arith, sixteen)) in
-      is ∙ ap (λ (l : List ℕ). blocks bodies ++ 1 ∷ l) (sym (append_assoc body (0 ∷ []) behind))
+      is ∙ ap (λ (l : List ℕ). blocks bodies ++ 1 ∷ l) (sym (append_assoc body (0 ∷ []) behind)) ∙ sym (append_assoc (blocks bodies) line behind)
       ∙ ap (λ (l : List ℕ). l ++ line ++ behind) (sym first) ∙ ap (λ (l : List ℕ). take (16 * count) seen ++ line ++ l) (sym last)
 
   pub written_gate : (c : List ℕ) → Holds staged (16 * count) (1 ∷ []) c → c ≡ opened
