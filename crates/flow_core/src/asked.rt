@@ -1,14 +1,12 @@
-ghost use Rattle.std.specs.Prelude.{◌≡◌, ◌↔◌, ℕ, false, Result, IsTrue};
-ghost use Rattle.flow_model.specs.declared.history.Entry.{Entry};
+ghost use Rattle.std.specs.Prelude.{◌≡◌, ℕ, Result};
 ghost use Rattle.flow_ask.specs.declared.ask.Ask.{Ask};
 ghost use Rattle.flow_ask.specs.declared.made.Made.{Made};
 ghost use Rattle.flow_ask.specs.declared.refusal.Refusal.{Refusal};
-ghost use Rattle.flow_core.specs.Run.{Run, with_entry};
+ghost use Rattle.flow_core.specs.Run.{Run};
 ghost use Rattle.flow_core.specs.Ask.{GrowsAtMost};
 
 use crate::run::Core;
 use flow_ask::{Answer, Ask};
-use flow_model::Entry;
 
 /// A run that is asked: a core, or what stands over one and refuses more.
 pub trait Asked {
@@ -20,9 +18,6 @@ pub trait Asked {
 
     // It answers the caller's ask so, and is this afterwards.
     ghost answers: { Self → Ask → ℕ → Result Made Refusal → Self → Type 0 };
-
-    // The entry may be made next.
-    ghost can_make: { Self → Entry → Type 0 };
 
     // Nothing that its callers see has changed.
     ghost is_same: { Self → Self → Type 0 };
@@ -38,12 +33,6 @@ pub trait Asked {
         ensures grows { GrowsAtMost (run self.old) ask by (run self.new) }
         ensures lasts { can_be_asked self.new };
 
-    /// Makes that very entry, with its caller, where it may be made next; else nothing changes.
-    fn make(&mut self, entry: Entry) -> bool
-        ensures made { IsTrue result → run self.new ≡ with_entry (run self.old) entry.by entry.step }
-        ensures kept { result ≡ false → is_same self.old self.new }
-        ensures allowed { IsTrue result ↔ can_make self.old entry };
-
     /// Finds at once what can be taken or done, so that the questions about this state cost little.
     fn look_ahead(&mut self)
         ensures same { is_same self.old self.new }
@@ -57,15 +46,12 @@ pub trait Asked {
 impl Asked for Core {
     ghost use Rattle.std.proofs.Common.{refl};
     ghost use Rattle.flow_core.specs.Ask.{Answers};
-    ghost use Rattle.flow_core.specs.Make.{CanMake};
 
     ghost run = { λ r. r };
 
     ghost can_be_asked = { λ _. Unit {0} };
 
     ghost answers = { Answers };
-
-    ghost can_make = { λ r entry. CanMake r entry.step };
 
     ghost is_same = { λ one other. other ≡ one };
 
@@ -78,10 +64,6 @@ impl Asked for Core {
     #[tactic(auto, using(crate::proofs::Growth::answers_grow))]
     fn answer(&mut self, ask: Ask, by: u32) -> Answer {
         Core::answer(self, ask, by)
-    }
-
-    fn make(&mut self, entry: Entry) -> bool {
-        Core::make(self, entry)
     }
 
     fn look_ahead(&mut self) {

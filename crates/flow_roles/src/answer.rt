@@ -87,15 +87,13 @@ impl Desk {
 
 impl Asked for Desk {
     ghost use Rattle.std.proofs.Common.{refl};
-    ghost use Rattle.flow_roles.specs.Ask.{DeskAnswers, CanMakeAt};
+    ghost use Rattle.flow_roles.specs.Ask.{DeskAnswers};
 
     ghost run = { λ d. d.run };
 
     ghost can_be_asked = { λ _. Unit {0} };
 
     ghost answers = { DeskAnswers };
-
-    ghost can_make = { CanMakeAt };
 
     ghost is_same = { λ one other. other ≡ one };
 
@@ -108,10 +106,6 @@ impl Asked for Desk {
     #[tactic(auto, using(crate::proofs::Growth::desk_grows))]
     fn answer(&mut self, ask: Ask, by: u32) -> Answer {
         Desk::answer(self, ask, by)
-    }
-
-    fn make(&mut self, entry: Entry) -> bool {
-        Desk::make(self, entry)
     }
 
     fn look_ahead(&mut self) {
