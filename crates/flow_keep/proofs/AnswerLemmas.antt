@@ -1,5 +1,5 @@
 -- Whatever a run is asked, it stays or has one entry more; so the file keeps the one history or the other.
-use Rattle.std.proofs.Common.{◌≡◌, inl, inr, ℕ, ◌+◌, ◌≤◌, Bool, true, false, List, [], ◌∷◌, length, take, Option, Result, Ok, Err, refl, sym, ap, subst, ◌∙◌, arith, length-append, true≢false}
+use Rattle.std.proofs.Common.{◌≡◌, inl, inr, ℕ, ◌+◌, ◌≤◌, ◌<◌, Bool, true, false, List, [], ◌∷◌, length, take, Option, Result, Ok, Err, refl, sym, ap, subst, ◌∙◌, arith, length-append, true≢false}
 use Rattle.std.proofs.lemmas.List.{take_at, take_all, length-take-le}
 use Rattle.flow_model.specs.declared.history.Call.{Call}
 use Rattle.flow_model.specs.declared.history.FailEffect.{FailEffect}
@@ -18,7 +18,7 @@ use Rattle.flow_keep.specs.declared.refusal.KeptRefusal.{KeptRefusal}
 use Rattle.flow_disk.specs.Disk.{Leaves}
 use Rattle.flow_keep.specs.Records.{Keeps}
 use Rattle.flow_keep.specs.Kept.{IsKept, KeepsEither, GainsRecord}
-use Rattle.flow_keep.specs.Answered.{IsKeptAnswer, IsTold, LeavesKept, front}
+use Rattle.flow_keep.specs.Answered.{IsKeptAnswer, IsTold, CountsDisk, LeavesKept, front}
 
 pub takes_grow : (r : Run) (leaf by : ℕ) (a : Result Call TakeRefusal) (after : Run) → Takes r leaf by a after → GrowsAtMost r (ask.Take leaf) by after
 takes_grow r leaf by a after h = growth.takes_grow r after leaf by a h
@@ -71,18 +71,15 @@ front_run r what by after (inl same) = ap (λ (a : Run). front (length r.history
 front_run r what by after (inr more) =
     ap (λ (a : Run). front (length r.history) a) more.2 ∙ ap (λ (h : List _). record r { history = h }) (take_at r.history (record { by = by; step = more.0 } ∷ []) (length r.history) refl)
 
-module _ {D : Type 0} {tells : Type 0} {moment : D → ℕ} {image : D → ℕ → List ℕ → Type 0} {seen : D → List ℕ} {chosen : D → Option ℕ} where
-  abbrev Left : Run → Run → D → D → Bool → Bool → Type 0
-  Left before after old new broken broken' = LeavesKept tells moment image seen chosen before after old new broken broken'
-
+module _ {D : Type 0} (tells : Type 0) (moment : D → ℕ) (image : D → ℕ → List ℕ → Type 0) (seen : D → List ℕ) (chosen : D → Option ℕ) where
   -- so what is left of the disk since then is what the call leaves
   pub leaves_since : (r : Run) (what : Ask) (by count : ℕ) (after : Run) (old new : D) (broken broken' : Bool) → GrowsAtMost r what by after → count ≡ length r.history →
-      Left (front count after) after old new broken broken' → Left r after old new broken broken'
+      LeavesKept tells moment image seen chosen (front count after) after old new broken broken' → LeavesKept tells moment image seen chosen r after old new broken broken'
   leaves_since r what by count after old new broken broken' grows counted leaves =
-      subst (λ (before : Run). Left before after old new broken broken') (ap (λ n. front n after) counted ∙ front_run r what by after grows) leaves
+      subst (λ (before : Run). LeavesKept tells moment image seen chosen before after old new broken broken') (ap (λ n. front n after) counted ∙ front_run r what by after grows) leaves
 
   -- a broken keep leaves all as it is
-  pub leaves_all : (r : Run) (d : D) (broken : Bool) → broken ≡ true → Left r r d d broken broken
+  pub leaves_all : (r : Run) (d : D) (broken : Bool) → broken ≡ true → LeavesKept tells moment image seen chosen r r d d broken broken
   leaves_all r d broken is = record {
     same_file = refl;
     same_disk = λ e. refl;
@@ -96,7 +93,7 @@ module _ {D : Type 0} {tells : Type 0} {moment : D → ℕ} {image : D → ℕ �
   pub leaves_of : (r : Run) (count : ℕ) (old new : D) (broken' : Bool) → count ≤ length r.history → chosen new ≡ chosen old → (length r.history ≡ count → new ≡ old) →
       (tells → broken' ≡ false → GainsRecord (take count r.history) r.history (seen old) (seen new)) →
       (tells → Leaves moment image old new (KeepsEither (take count r.history) r.history)) →
-      (broken' ≡ false → tells → IsKept r.history (seen new) (image new (moment new))) → Left (front count r) r old new false broken'
+      (broken' ≡ false → tells → IsKept r.history (seen new) (image new (moment new))) → LeavesKept tells moment image seen chosen (front count r) r old new false broken'
   leaves_of r count old new broken' counted file idle gains any kept = record {
     same_file = file;
     same_disk = λ same.
@@ -107,6 +104,15 @@ module _ {D : Type 0} {tells : Type 0} {moment : D → ℕ} {image : D → ℕ �
     acknowledged = λ told whole c image. subst (Keeps r.history) (sym ((kept whole told).settled.durable c image)) (kept whole told).keeps;
     after_fault = λ told whole c image. let all = any told in all.each (moment new) c all.later (omega arith) image;
   }
+
+-- a count that did not rise while nothing broke
+pub counts_nothing : (broken : Bool) (n : ℕ) → CountsDisk broken broken n n
+counts_nothing true n = refl
+counts_nothing false n = refl
+
+pub still_counts : (broken' : Bool) (n m most : ℕ) → CountsDisk false broken' n m → n < most → broken' ≡ false → m < most
+still_counts false n m most same below whole = omega (arith, same, below)
+still_counts true n m most same below whole = absurd (true≢false whole)
 
 -- what is told of an answer is what the keep answers
 pub told_answer : {A R : Type 0} (Answers : Result A R → Run → Type 0) (what : Ask) (by : ℕ) (r after : Run) (answer : Result A R) (broken : Bool) (told : Result A (KeptRefusal R)) → Answers answer after → GrowsAtMost r what by after →

@@ -5,7 +5,7 @@ ghost use Rattle.flow_core.specs.Ask.{HasOneMore};
 ghost use Rattle.flow_model.specs.Lists.{Each};
 ghost use Rattle.flow_record.specs.History.{IsSmall};
 ghost use Rattle.flow_keep.specs.Kept.{IsKept};
-ghost use Rattle.flow_keep.specs.Answered.{IsTold, CountsKept, IsKeptAnswer, LeavesKept, front};
+ghost use Rattle.flow_keep.specs.Answered.{IsTold, CountsKept, CountsDisk, IsKeptAnswer, LeavesKept, front};
 
 use crate::keep::{Keep, keep_last};
 use crate::refusal::KeptRefusal;
@@ -32,6 +32,7 @@ fn answer_kept<D: Disk, A: Copy, R: Copy>(
     requires whole { broken.old ≡ false }
     ensures told { IsTold answer broken.new result }
     ensures fault { CountsKept (D.faults disk.old) (D.faults disk.new) result }
+    ensures counts { CountsDisk false broken.new (D.faults disk.old) (D.faults disk.new) }
     ensures kept { broken.new ≡ false → D.tells →
         IsKept core.now.history (D.seen disk.new) (D.image disk.new (D.moment disk.new)) }
     ensures leaves { LeavesKept D.tells D.moment D.image D.seen D.chosen (front count core.now) core.now disk.old disk.new broken.old broken.new }
@@ -51,16 +52,19 @@ fn answer_kept<D: Disk, A: Copy, R: Copy>(
 }
 
 impl<D: Disk, R: Asked> Keep<D, R> {
-    ghost use Rattle.flow_keep.specs.Answered.{KeepAnswers, CountsDisk};
+    ghost use Rattle.flow_core.specs.Ask.{GrowsAtMost};
+    ghost use Rattle.flow_keep.specs.Answered.{KeepAnswers};
     ghost use Rattle.flow_keep.specs.Holding.{run_of, disk_of, is_broken};
 
     /// Asks the run, keeps the entry that came of it, also one that came with a refusal, and only then answers.
-    #[tactic(auto, using(crate::proofs::AnswerLemmas::leaves_since, crate::proofs::AnswerLemmas::leaves_all))]
+    #[tactic(auto, using(crate::proofs::AnswerLemmas::leaves_since, crate::proofs::AnswerLemmas::leaves_all, crate::proofs::AnswerLemmas::counts_nothing, crate::proofs::AnswerLemmas::still_counts))]
     pub fn answer(&mut self, ask: Ask, by: u32) -> Answer
         requires run { R.can_be_asked (run_of self.old) }
         requires faults { is_broken self.old ≡ false → D.faults (disk_of self.old) < 2 ^ 64 - 1 }
         ensures answer { KeepAnswers R.run R.answers (is_broken self.old) (run_of self.old) ask by result (is_broken self.new) (run_of self.new) }
+        ensures grows { GrowsAtMost (R.run (run_of self.old)) ask by (R.run (run_of self.new)) }
         ensures run { R.can_be_asked (run_of self.new) }
+        ensures counts { is_broken self.new ≡ false → D.faults (disk_of self.new) < 2 ^ 64 - 1 }
         ensures fault { CountsDisk (is_broken self.old) (is_broken self.new) (D.faults (disk_of self.old)) (D.faults (disk_of self.new)) }
         ensures leaves { LeavesKept D.tells D.moment D.image D.seen D.chosen (R.run (run_of self.old)) (R.run (run_of self.new))
             (disk_of self.old) (disk_of self.new) (is_broken self.old) (is_broken self.new) }

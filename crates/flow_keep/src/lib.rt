@@ -2,6 +2,7 @@
 #![tactic(auto)]
 
 mod append;
+mod asked;
 mod body;
 mod calls;
 mod close;

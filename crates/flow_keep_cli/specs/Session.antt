@@ -4,11 +4,12 @@ use Rattle.std.specs.Io.KnownBytes.{Appends}
 use Rattle.flow_model.specs.Verdict.{drive_verdict}
 use Rattle.flow_core.specs.Run.{Run, schema}
 use Rattle.flow_record.specs.declared.command.Command.{Command}
-use Rattle.flow_reply.specs.declared.answer.Answer.{Answer}
-use Rattle.flow_reply.specs.Answers.{Answers}
-use Rattle.flow_reply.specs.Replies.{RepliesTo, Drives}
+use Rattle.flow_core.specs.Ask.{Answers}
+use Rattle.flow_reply.specs.Replies.{Given, IsSame, RepliesTo, Drives}
 use Rattle.flow_reply.specs.Verdict.{ended, report_of}
 use Rattle.flow_reply.specs.Session.{Driven, IsSession, driven_text}
+use Rattle.flow_model.specs.declared.history.Entry.{Entry}
+use Rattle.flow_keep.specs.Kept.{KeepsEither}
 use Rattle.flow_keep.specs.Records.{Keeps}
 use Rattle.flow_keep_cli.specs.declared.replies.Cut.{Cut}
 use Rattle.flow_keep_cli.specs.declared.replies.Cut.TheVariants as cut
@@ -21,10 +22,14 @@ use Rattle.flow_keep_cli.specs.Status.{status_of}
 abbrev pub driver : ℕ
 driver = 0
 
+-- the command was given to the run, whatever is replied, and the run is this afterwards
+abbrev pub IsGiven : Run → Command → Run → Type 0
+IsGiven r command after = Given Answers IsSame driver r command after
+
 -- the run is this after the commands, whatever is replied to them
 abbrev pub Goes : Run → List Command → Run → Type 0
 Goes r [] after = after ≡ r
-Goes r (command ∷ commands) after = (answer : Answer) × ((next : Run) × Answers r driver command answer next × Goes next commands after)
+Goes r (command ∷ commands) after = (next : Run) × IsGiven r command next × Goes next commands after
 
 -- the file keeps what the first so many commands, or one more, make of the run
 pub record KeepsSome (first : Run) (commands : List Command) (least : ℕ) (file : List ℕ) : Type 0 where
@@ -96,3 +101,18 @@ CountsCut disk disk' sink sink' (Ok value) = (disk' ≡ disk) × (sink' ≡ sink
 CountsCut disk disk' sink sink' (Err cut.Memory) = (disk' ≡ disk) × (sink' ≡ sink)
 CountsCut disk disk' sink sink' (Err cut.Sink) = (disk' ≡ disk) × (sink' ≡ sink + 1)
 CountsCut disk disk' sink sink' (Err cut.Disk) = (disk' ≡ disk + 1) × (sink' ≡ sink)
+
+-- the same, of one command
+abbrev pub CountsServed : {T : Type 0} → ℕ → ℕ → Result T Cut → Type 0
+CountsServed before now (Err cut.Disk) = now ≡ before + 1
+CountsServed before now other = now ≡ before
+
+-- the file keeps the history after the command; where the disk failed, that or the history before it
+abbrev pub KeepsServed : {T : Type 0} → List Entry → List Entry → Result T Cut → List ℕ → Type 0
+KeepsServed before after (Err cut.Disk) file = KeepsEither before after file
+KeepsServed before after other file = Keeps after file
+
+-- it is the disk that failed, or memory that was wanted, and not the sink
+abbrev pub IsNoSink : Cut → Type 0
+IsNoSink cut.Sink = ⊥
+IsNoSink other = Unit {0}

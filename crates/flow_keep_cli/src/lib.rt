@@ -1,7 +1,6 @@
 //! A run that is driven by a session and kept in a file, entry by entry.
 #![tactic(auto)]
 
-mod answers;
 mod asked;
 mod begin;
 mod call;
@@ -11,7 +10,6 @@ mod session;
 mod status;
 mod words;
 
-pub use answers::serve;
 pub use call::flowkeep;
 pub use replies::{Cut, reply_to_all};
 pub use status::KeepStatus;

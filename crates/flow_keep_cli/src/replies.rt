@@ -1,16 +1,19 @@
-ghost use Rattle.std.specs.Prelude.{◌≡◌, ◌-◌, ◌^◌, ◌<◌, ℕ, List, [], false, IfErr, OnOk};
+ghost use Rattle.std.specs.Prelude.{◌≡◌, ◌-◌, ◌^◌, ◌<◌, ℕ, List, [], false, IfErr, IfOk, OnOk};
 ghost use Rattle.std.specs.Io.KnownBytes.{Appends};
-ghost use Rattle.flow_reply.specs.Replies.{Drives};
+ghost use Rattle.flow_reply.specs.Replies.{RepliesTo, Drives};
 ghost use Rattle.flow_keep.specs.Holding.{run_of, disk_of, is_broken};
-ghost use Rattle.flow_keep_cli.specs.Session.{driver, IsCut, BehindReplies, CountsCut};
+ghost use Rattle.flow_keep_cli.specs.Session.{driver, IsCut, IsGiven, IsNoSink, BehindReplies, CountsCut, CountsServed, KeepsServed};
 
-use crate::answers::serve;
+use flow_ask::{Ask, Look};
 use flow_disk::Disk;
 use flow_io::{Sink, write_all};
 use flow_keep::Keep;
 use flow_record::Command;
-use flow_reply::print_reply;
-use std::alloc::Global;
+use flow_reply::{print_answer, print_look};
+use std::alloc::{AllocError, Global};
+
+/// The number of the caller that makes the entries of a session.
+const DRIVER: u32 = 0;
 
 /// Why a session was cut short.
 #[derive(Clone, Copy)]
@@ -21,6 +24,25 @@ pub enum Cut {
     Sink,
     /// The disk failed.
     Disk,
+}
+
+/// Gives a command to a keep none of whose calls has failed, and gives the line of the reply, once the entry that came of it is in the file.
+fn serve<D: Disk>(alloc: Global, keep: &mut Keep<D>, command: &Command) -> Result<Vec<u8>, Cut>
+    requires faults { D.faults (disk_of keep.old) < 2 ^ 64 - 1 }
+    requires whole { is_broken keep.old ≡ false }
+    ensures cause { CountsServed (D.faults (disk_of keep.old)) (D.faults (disk_of keep.new)) result }
+    ensures unbroken { OnOk result (is_broken keep.new ≡ false) }
+    ensures same_file { D.chosen (disk_of keep.new) ≡ D.chosen (disk_of keep.old) }
+    ensures replies { IfOk result (λ line. RepliesTo (run_of keep.old) driver command.now line.items (run_of keep.new)) }
+    ensures given { IsGiven (run_of keep.old) command.now (run_of keep.new) }
+    ensures no_sink { IfErr result IsNoSink }
+    ensures kept { D.tells → (c : List ℕ) → D.image (disk_of keep.new) (D.moment (disk_of keep.new)) c
+        → KeepsServed (run_of keep.old).history (run_of keep.new).history result c }
+{
+    match *command {
+        Command::Ask(ask) => serve_ask(alloc, keep, ask),
+        Command::Look(look) => serve_look(alloc, keep, look),
+    }
 }
 
 /// Goes through the commands. The reply to each is written once the entry that came of it is in the file.
@@ -42,12 +64,7 @@ pub fn reply_to_all<K: Sink, D: Disk>(
         (K.held sink.old) (K.held sink.new) D.tells (D.image (disk_of keep.new) (D.moment (disk_of keep.new)))) }
 {
     for command in commands {
-        let Ok(answer) = serve(keep, command) else {
-            return Err(Cut::Disk);
-        };
-        let Ok(line) = print_reply(alloc, keep.core(), command, &answer) else {
-            return Err(Cut::Memory);
-        };
+        let line = serve(alloc, keep, command)?;
         let Ok(()) = write_all(sink, &line) else {
             return Err(Cut::Sink);
         };
