@@ -36,7 +36,8 @@ pub fn reply_to<R: Asked>(
 
 /// Is called before a look is shown: two of them ask of every leaf what may come next.
 fn look_at<R: Asked>(run: &mut R, look: Look)
-    ensures { R.is_same run.old run.new }
+    ensures same { R.is_same run.old run.new }
+    ensures lasts { R.can_be_asked run.old → R.can_be_asked run.new }
 {
     match look {
         Look::Next | Look::Enabled => run.look_ahead(),
