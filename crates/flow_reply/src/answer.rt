@@ -25,6 +25,18 @@ pub fn print_answer(
     }
 }
 
+/// Prints the line of the answer to an ask.
+pub fn answer_line(
+    alloc: Global,
+    core: &Core,
+    ask: Ask,
+    answer: &Answer,
+) -> Result<Vec<u8>, AllocError>
+    ensures { IfOk result (λ line. line.items ≡ answer_text core.now ask answer.now ++ codes "\n") }
+{
+    with_bytes(print_answer(alloc, core, ask, answer)?, b"\n")
+}
+
 /// Prints a call that is given, and the name of its event.
 fn print_call(alloc: Global, core: &Core, call: &Call) -> Result<Vec<u8>, AllocError>
     ensures { IfOk result (λ text. text.items ≡ call_text core.now call.now) }

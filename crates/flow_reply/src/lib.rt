@@ -14,11 +14,11 @@ mod summary;
 mod verdict;
 mod words;
 
-pub use answer::print_answer;
+pub use answer::{answer_line, print_answer};
 pub use conclusion::{Conclusion, conclusion_of};
 pub use ending::{status_of, verdict_of};
 pub use flow_record::Command;
-pub use look::print_look;
+pub use look::{look_line, print_look};
 pub use replies::{reply_to, reply_to_all};
 pub use report::{Report, print_report, report_of};
 pub use session::{conclude, drive};

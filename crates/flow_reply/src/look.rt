@@ -1,10 +1,10 @@
-ghost use Rattle.std.specs.Prelude.{◌≡◌, IfOk};
+ghost use Rattle.std.specs.Prelude.{◌≡◌, ◌++◌, ℕ, List, codes, IfOk};
 ghost use Rattle.flow_ask.specs.declared.ask.Look.TheVariants as look;
 ghost use Rattle.flow_reply.specs.Look.{IsShown};
 ghost use Rattle.flow_reply.specs.Words.{numbers_text};
 
 use crate::facts::print_facts;
-use crate::words::{print_number, print_numbers, print_word};
+use crate::words::{print_number, print_numbers, print_word, with_bytes};
 use flow_ask::Look;
 use flow_core::{Core, Next};
 use std::alloc::{AllocError, Global};
@@ -22,6 +22,13 @@ pub fn print_look(alloc: Global, core: &Core, look: Look) -> Result<Vec<u8>, All
             print_facts(alloc, core.workflow(), &held)
         }
     }
+}
+
+/// Prints the line of what a look shows of the run.
+pub fn look_line(alloc: Global, core: &Core, look: Look) -> Result<Vec<u8>, AllocError>
+    ensures { IfOk result (λ line. (text : List ℕ) × IsShown core.now look text × (line.items ≡ text ++ codes "\n")) }
+{
+    with_bytes(print_look(alloc, core, look)?, b"\n")
 }
 
 /// Prints what the run can do next.

@@ -1,9 +1,8 @@
 ghost use Rattle.std.specs.Prelude.{IfOk, OnErr};
 ghost use Rattle.flow_reply.specs.Replies.{Replies, Given, Goes, GoesPart};
 
-use crate::answer::print_answer;
-use crate::look::print_look;
-use crate::words::with_bytes;
+use crate::answer::answer_line;
+use crate::look::look_line;
 use flow_ask::Look;
 use flow_core::Asked;
 use flow_record::Command;
@@ -21,22 +20,22 @@ pub fn reply_to<R: Asked>(
     ensures err { OnErr result (Given R.answers R.is_same by run.old command.now run.new) }
     ensures lasts { R.can_be_asked run.new }
 {
-    let text = match *command {
+    match *command {
         Command::Ask(ask) => {
             let answer = run.answer(ask, by);
-            print_answer(alloc, run.core(), ask, &answer)
+            answer_line(alloc, run.core(), ask, &answer)
         }
         Command::Look(look) => {
             look_at(run, look);
-            print_look(alloc, run.core(), look)
+            look_line(alloc, run.core(), look)
         }
-    };
-    with_bytes(text?, b"\n")
+    }
 }
 
 /// Is called before a look is shown: two of them ask of every leaf what may come next.
 fn look_at<R: Asked>(run: &mut R, look: Look)
-    ensures { R.is_same run.old run.new }
+    ensures same { R.is_same run.old run.new }
+    ensures lasts { R.can_be_asked run.old → R.can_be_asked run.new }
 {
     match look {
         Look::Next | Look::Enabled => run.look_ahead(),
