@@ -6,28 +6,27 @@ use Rattle.std.proofs.KnownBytes.{Appends-trans}
 use Rattle.std.specs.Io.KnownBytes.{Appends}
 use Rattle.flow_core.specs.Run.{Run}
 use Rattle.flow_record.specs.declared.command.Command.{Command}
-use Rattle.flow_reply.specs.declared.answer.Answer.{Answer}
-use Rattle.flow_reply.specs.Reply.{IsReplyLine}
 use Rattle.flow_io.specs.Sink.{AppendsPart}
 use Rattle.flow_keep.specs.Records.{Keeps}
 use Rattle.flow_keep.specs.Kept.{KeepsEither}
-use Rattle.flow_reply.specs.Answers.{Answers}
-use Rattle.flow_reply.specs.Replies.{Drives}
+use Rattle.flow_core.specs.Ask.{Answers}
+use Rattle.flow_reply.specs.Replies.{IsSame, RepliesTo, Drives}
+use Rattle.flow_reply.proofs.SessionLemmas.{was_given}
+use Rattle.flow_keep_cli.specs.declared.replies.Cut.{Cut}
 use Rattle.flow_keep_cli.specs.declared.replies.Cut.TheVariants as cut
 use Rattle.flow_keep_cli.specs.declared.status.KeepStatus.{KeepStatus}
 use Rattle.flow_keep_cli.specs.declared.status.KeepStatus.TheVariants as ending
 use Rattle.flow_keep_cli.specs.Lines.{disk_line}
-use Rattle.flow_keep_cli.specs.Session.{driver, Goes, KeepsSome, IsCut, BehindReplies, BehindStatus}
+use Rattle.flow_keep_cli.specs.Session.{driver, Goes, IsGiven, IsNoSink, KeepsCut, KeepsSome, IsCut, BehindReplies, BehindStatus}
 use Rattle.flow_keep_cli.specs.Course.{IsSaid}
 
 goes_of : (old new : Run) (session : List Command) (text : List ℕ) → Drives old driver session text new → Goes old session new
 goes_of old new [] text d = d.1
-goes_of old new (c ∷ session) text (m, (l, (rest, first, later, e))) = (first.0, (m, first.1, goes_of m new session rest later))
+goes_of old new (c ∷ session) text (m, (l, (rest, first, later, e))) = (m, was_given (λ run. run) Answers IsSame driver old m c l first, goes_of m new session rest later)
 
-goes_more : (old middle new : Run) (session : List Command) (command : Command) (answer : Answer) → Goes old session middle → Answers middle driver command answer new →
-    Goes old (session ++ command ∷ []) new
-goes_more old middle new [] command answer g a = (answer, (new, subst (λ (p : Run). Answers p driver command answer new) g a, refl))
-goes_more old middle new (c ∷ session) command answer (b, (m, first, later)) a = (b, (m, first, goes_more m middle new session command answer later a))
+goes_more : (old middle new : Run) (session : List Command) (command : Command) → Goes old session middle → IsGiven middle command new → Goes old (session ++ command ∷ []) new
+goes_more old middle new [] command g a = (new, subst (λ (p : Run). IsGiven p command new) g a, refl)
+goes_more old middle new (c ∷ session) command (m, first, later) a = (m, first, goes_more m middle new session command later a)
 
 -- an element that is there
 there : (commands : List Command) (i : ℕ) (d : Command) → i < length commands → slice_get commands i ≡ Some (get_or commands i d)
@@ -36,10 +35,10 @@ there (c ∷ commands) zero d within = refl
 there (c ∷ commands) (suc i) d within = there commands i d (omega (arith, within))
 
 module _ (first middle new : Run) (commands : List Command) (i : ℕ) (d : Command) (within : i < length commands) (text : List ℕ) (held held' : Option (List ℕ)) (tells : Type 0) (images : List ℕ → Type 0)
-    (driven : Drives first driver (take i commands) text middle) (answer : Answer) (answered : Answers middle driver (get_or commands i d) answer new) where
+    (driven : Drives first driver (take i commands) text middle) (given : IsGiven middle (get_or commands i d) new) where
   one_more : Goes first (take (i + 1) commands) new
   one_more = subst (λ (front : List Command). Goes first front new) (sym (take_more commands i d within))
-      (goes_more first middle new (take i commands) (get_or commands i d) answer (goes_of first middle (take i commands) text driven) answered)
+      (goes_more first middle new (take i commands) (get_or commands i d) (goes_of first middle (take i commands) text driven) given)
 
   -- the file keeps the run with the next command
   after : (file : List ℕ) → Keeps new.history file → KeepsSome first commands i file
@@ -82,8 +81,15 @@ module _ (first middle new : Run) (commands : List Command) (i : ℕ) (d : Comma
     keeps = λ told file image. after file (kept told file image);
   }
 
+  -- no line was to be written: the disk failed, or memory was wanted
+  pub cut_served : (why : Cut) → IsNoSink why → Appends held held' text →
+      (tells → (file : List ℕ) → images file → KeepsCut middle.history new.history why file) → IsCut first commands (BehindReplies commands why) [] held held' tells images
+  cut_served cut.Disk no written kept = cut_disk written kept
+  cut_served cut.Memory no written kept = cut_memory written kept
+  cut_served cut.Sink no written kept = absurd no
+
   -- the sink failed within the reply
-  pub cut_sink : (line : List ℕ) (held'' : Option (List ℕ)) → Appends held held' text → IsReplyLine new (get_or commands i d) answer line → AppendsPart held' held'' line →
+  pub cut_sink : (line : List ℕ) (held'' : Option (List ℕ)) → Appends held held' text → RepliesTo middle driver (get_or commands i d) line new → AppendsPart held' held'' line →
       (tells → (file : List ℕ) → images file → Keeps new.history file) → IsCut first commands (BehindReplies commands cut.Sink) [] held held'' tells images
   cut_sink line held'' written reply part kept = record {
     done = i;
@@ -92,7 +98,7 @@ module _ (first middle new : Run) (commands : List Command) (i : ℕ) (d : Comma
     middle = middle;
     driven = driven;
     more = take part.0 line;
-    behind = (line, (get_or commands i d, there commands i d within, (new, (answer, answered, reply))), (part.0, part.1, refl));
+    behind = (line, (get_or commands i d, there commands i d within, (new, reply)), (part.0, part.1, refl));
     written = Appends-trans held held' held'' text (take part.0 line) written part.2;
     keeps = λ told file image. after file (kept told file image);
   }

@@ -1,5 +1,5 @@
 pub mod Calls
-pub mod Faults
+pub mod Served
 pub mod Cuts
 pub mod Sessions
 pub mod Disks

@@ -9,7 +9,7 @@ use Rattle.flow_core.specs.Lawful.{IsLawful}
 use Rattle.flow_record.specs.declared.command.Command.{Command}
 use Rattle.flow_reply.specs.Replies.{Drives}
 use Rattle.flow_reply.specs.Session.{driven_text}
-use Rattle.flow_reply.proofs.AnswersLemmas.{SameRun}
+use Rattle.flow_core.proofs.Growth.{SameRun}
 use Rattle.flow_reply.proofs.SessionLemmas.{drives_same}
 use Rattle.flow_keep.specs.Records.{Keeps}
 use Rattle.flow_keep_cli.specs.declared.status.KeepStatus.{KeepStatus}

@@ -107,10 +107,10 @@ abbrev pub CountsServed : {T : Type 0} → ℕ → ℕ → Result T Cut → Type
 CountsServed before now (Err cut.Disk) = now ≡ before + 1
 CountsServed before now other = now ≡ before
 
--- the file keeps the history after the command; where the disk failed, that or the history before it
-abbrev pub KeepsServed : {T : Type 0} → List Entry → List Entry → Result T Cut → List ℕ → Type 0
-KeepsServed before after (Err cut.Disk) file = KeepsEither before after file
-KeepsServed before after other file = Keeps after file
+-- the file keeps the history after the command that was cut; where the disk failed, that or the history before it
+abbrev pub KeepsCut : List Entry → List Entry → Cut → List ℕ → Type 0
+KeepsCut before after cut.Disk file = KeepsEither before after file
+KeepsCut before after other file = Keeps after file
 
 -- it is the disk that failed, or memory that was wanted, and not the sink
 abbrev pub IsNoSink : Cut → Type 0

@@ -11,11 +11,10 @@ use crate::say::{DISK_LINE, print_kept, say};
 use crate::status::KeepStatus;
 use flow_core::Core;
 use flow_disk::Disk;
-use flow_reply::{status_of, verdict_of};
 use flow_io::{Sink, write_all};
 use flow_keep::Keep;
 use flow_record::Command;
-use flow_reply::print_report;
+use flow_reply::{print_report, status_of, verdict_of};
 use std::alloc::Global;
 
 /// Writes what a driven run came to.
