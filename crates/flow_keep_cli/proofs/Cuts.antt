@@ -84,9 +84,9 @@ module _ (first middle new : Run) (commands : List Command) (i : ℕ) (d : Comma
   -- no line was to be written: the disk failed, or memory was wanted
   pub cut_served : (why : Cut) → IsNoSink why → Appends held held' text →
       (tells → (file : List ℕ) → images file → KeepsCut middle.history new.history why file) → IsCut first commands (BehindReplies commands why) [] held held' tells images
-  cut_served cut.Disk no written kept = cut_disk written kept
-  cut_served cut.Memory no written kept = cut_memory written kept
-  cut_served cut.Sink no written kept = absurd no
+  cut_served cut.Disk other written kept = cut_disk written kept
+  cut_served cut.Memory other written kept = cut_memory written kept
+  cut_served cut.Sink other written kept = absurd other
 
   -- the sink failed within the reply
   pub cut_sink : (line : List ℕ) (held'' : Option (List ℕ)) → Appends held held' text → RepliesTo middle driver (get_or commands i d) line new → AppendsPart held' held'' line →

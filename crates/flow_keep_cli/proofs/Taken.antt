@@ -23,7 +23,7 @@ pub taken_whole : (left left' : Option (List ℕ)) (came : Looked) → IsReadWho
 taken_whole left left' (looked.Ready asked) whole = whole
 taken_whole left left' (looked.Refused output) whole = inl whole
 
-module _ {T : Type 0} (left left' : Option (List ℕ)) (events : List (List ℕ)) (output : Output) where
+module _ (T : Type 0) (left left' : Option (List ℕ)) (events : List (List ℕ)) (output : Output) where
   taken_refused : (why : Refused) → IsCause (the_source left) why → LeavesSource {A = T} left left' (Err (stop.Refused why)) →
       Tells events why output.status output.text.items → IsTakenBy left left' (looked.Refused output)
   taken_refused refused.Read cause leaves told = inr (inr told.status_is)
