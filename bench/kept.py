@@ -323,7 +323,7 @@ def try_calls(folder):
                 if calls[place:place + 1] != expected[place:place + 1]:
                     wrong(f"{name}, {what} call: {calls[place:place + 1]} in place of {expected[place:place + 1]}, the call {place}")
                     break
-    print(f"calls: {count} of the system, as they must be")
+    print(f"calls: {count} of the system were compared")
 
 
 def try_two(folder):
@@ -343,7 +343,7 @@ def try_two(folder):
     first.stdout.read()
     first.wait()
     must_open("two, once the first has ended", path, RETRIED, driven(RETRIED, lines))
-    print("two: the second process is refused while the first has the file")
+    print("two: a second process on the file of a first one was tried")
 
 
 def entries_of(replies):

@@ -1,5 +1,7 @@
--- Four words, and what they ask for.
-use Rattle.std.proofs.Common.{◌≡◌, ◌<◌, ◌≤◌, ℕ, List, [], ◌∷◌, length, map, get_or, codes, refl, sym, subst, arith}
+-- Words, and what they ask for.
+use Rattle.std.proofs.Common.{◌≡◌, ◌<◌, ◌≤◌, ◌∙◌, ℕ, List, [], ◌∷◌, length, map, get_or, codes, Some, None, refl, sym, ap, subst, arith}
+use Rattle.std.specs.Prelude.{slice_get, option_map}
+use Rattle.std.proofs.lemmas.Option.{slice_get-map, slice_get-get_or, slice_get_past}
 use Rattle.flow_keep_cli.specs.Words.{IsSteps, IsCall, IsNoCall}
 
 -- a list of four, by its last three
@@ -22,3 +24,10 @@ module _ {A : Type 0} (bytes : A → List ℕ) (words : List A) (path option num
   steps_not_called none file steps call =
       let split = four words path option number some few second third fourth in
       none steps (subst (λ (ws : List A). IsCall (map bytes ws) file steps) (sym split.1) call).2
+
+-- the word behind the first, and that there is none
+pub second_is : {A : Type 0} (bytes : A → List ℕ) (words : List A) (word : A) → 1 < length words → word ≡ get_or words 1 word → slice_get (map bytes words) 1 ≡ Some (bytes word)
+second_is bytes words word some is = slice_get-map bytes words 1 ∙ ap (option_map bytes) (slice_get-get_or words 1 word some ∙ ap Some (sym is))
+
+pub no_second : {A : Type 0} (bytes : A → List ℕ) (words : List A) → length words ≤ 1 → slice_get (map bytes words) 1 ≡ None
+no_second bytes words few = slice_get-map bytes words 1 ∙ ap (option_map bytes) (slice_get_past words 1 few)

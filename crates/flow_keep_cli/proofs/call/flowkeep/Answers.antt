@@ -2,6 +2,8 @@ use Rattle.std.proofs.Common.{ℕ, List, map, refl, sym, subst, inl, inr}
 use Rattle.std.specs.String.{string_bytes}
 use Rattle.flow_keep_cli.specs.declared.asked.Looked.{Looked}
 use Rattle.flow_keep_cli.specs.Asked.{IsRefusedBy, IsLooked, Wanted, IsWanted}
+use Rattle.flow_keep_cli.specs.Lines.{help_text}
+use Rattle.flow_keep_cli.specs.declared.status.KeepStatus.TheVariants.{Fine}
 use Rattle.flow_keep_cli.specs.Course.{IsAnsweredAlone}
 use Rattle.flow_keep_cli.proofs.Courses.{before_alone, driven_of, cut_of, before_of}
 use Rattle.flow_keep_cli.proofs.call.flowkeep.Goals as goal
@@ -34,6 +36,24 @@ pub returns-in-Ok-Ready-clause-before : goal.returns-in-Ok-Ready-clause-before
 returns-in-Ok-Ready-clause-before g c =
     before_of g.D.Disk.tells g.D.Disk.moment g.D.Disk.image g.D.Disk.synced g.D.Disk.seen g.D.Disk.faults g.D.Disk.chosen g.D.Disk.file_at (map (λ word. string_bytes word) c.args.words.now) (g.S.Source.left c.args.source.now)
     c.args.disk c.keep_session.result.1 (g.K.Sink.held c.args.sink.now) (g.K.Sink.held c.keep_session.new.sink) c.keep_session.result.0 (wanted g c) (is_wanted g c) c.keep_session.ensures.course
+
+-- ---- help
+
+helped : (g : _) (c : goal.After-say g) → IsAnsweredAlone (map (λ word. string_bytes word) c.args.words.now) (g.S.Source.left c.args.source.now) c.args.disk c.args.disk
+    (g.K.Sink.held c.args.sink.now) (g.K.Sink.held c.say.new.sink) c.say.result
+helped g c = (refl, (Fine, (help_text, inl (c.asks_for_help.ensures.0 c.if-asks_for_help.true, refl, refl), c.say.ensures.said)))
+
+pub returns-then-asks_for_help-clause-cut : goal.returns-then-asks_for_help-clause-cut
+returns-then-asks_for_help-clause-cut g c = λ mishap. inr (before_alone g.D.Disk.tells g.D.Disk.moment g.D.Disk.image g.D.Disk.synced g.D.Disk.seen g.D.Disk.faults g.D.Disk.chosen g.D.Disk.file_at (map (λ word. string_bytes word) c.args.words.now) (g.S.Source.left c.args.source.now)
+    c.args.disk c.args.disk (g.K.Sink.held c.args.sink.now) (g.K.Sink.held c.say.new.sink) c.say.result (helped g c))
+
+pub returns-then-asks_for_help-clause-taken : goal.returns-then-asks_for_help-clause-taken
+returns-then-asks_for_help-clause-taken g c = λ path steps call plain. absurd (plain (c.asks_for_help.ensures.0 c.if-asks_for_help.true))
+
+-- ---- words that are no call
+
+pub returns-in_default-clause-taken : goal.returns-in_default-clause-taken
+returns-in_default-clause-taken g c = λ path steps call. absurd (c.in_default.ensures.call path steps call)
 
 -- ---- what is refused
 
