@@ -5,7 +5,7 @@ What is written here is written by hand. The files are found by bench/changing.p
 import dataclasses
 
 
-@dataclasses.dataclass
+@dataclasses.dataclass(eq=False)
 class Thing:
     """A thing that exists: what it is, a pattern that names it in code, a pattern that names it in what users read."""
     what: str

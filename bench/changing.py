@@ -18,6 +18,7 @@ from changes import BEGIN, CHANGES, END, INTRODUCTION, Thing
 TOP = pathlib.Path(__file__).resolve().parent.parent
 PAGE = TOP / "docs/CHANGING.md"
 WIDTH = 100
+PARTS = ["src", "specs", "proofs"]
 COMMENT = {".rt": r"//.*", ".antt": r"(?m)(?:^|(?<=\s))--(?:\s.*)?$"}
 # Where a user's word may stand.
 PROSE = ["README.md", "docs/**/*.md", "examples/README.md", "man/*", "completions/*", "editors/**/*", "bench/*.py",
@@ -43,10 +44,9 @@ def layers():
 def code():
     """The text of each file of code, specs and proofs without its comments, by its path below crates/."""
     texts = {}
-    for path in sorted((TOP / "crates").glob("*/*/**/*")):
-        parts = path.relative_to(TOP / "crates").parts
-        if path.suffix in COMMENT and parts[1] in ("src", "specs", "proofs"):
-            texts["/".join(parts)] = re.sub(COMMENT[path.suffix], "", path.read_text())
+    paths = (path for part in PARTS for kind in COMMENT for path in (TOP / "crates").glob(f"*/{part}/**/*{kind}"))
+    for path in sorted(paths):
+        texts[str(path.relative_to(TOP / "crates"))] = re.sub(COMMENT[path.suffix], "", path.read_text())
     return texts
 
 
@@ -63,6 +63,7 @@ def is_in(crate, thing):
     return crate in thing.only if thing.only else crate not in thing.but
 
 
+@functools.cache
 def named(thing):
     """The files whose code names the thing, by their path below crates/."""
     return [path for path, text in code().items() if is_in(path.partition("/")[0], thing) and re.search(thing.names, text)]
@@ -80,8 +81,7 @@ def of_crate(paths):
     for path in paths:
         part, _, rest = path.partition("/")
         parts.setdefault(part, []).append(f"`{shown(rest)}`")
-    order = [part for part in ("src", "specs", "proofs") if part in parts]
-    return "; ".join(f"{part} {', '.join(dict.fromkeys(parts[part]))}" for part in order)
+    return "; ".join(f"{part} {', '.join(dict.fromkeys(parts[part]))}" for part in PARTS if part in parts)
 
 
 def wrapped(text, first="", rest=""):
@@ -126,6 +126,7 @@ def section(change):
     return lines
 
 
+@functools.cache
 def page():
     """The whole page."""
     lines = ["# Changing the programs", ""]
