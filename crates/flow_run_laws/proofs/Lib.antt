@@ -1,0 +1,2 @@
+pub mod FoldedHistoriesLemmas
+pub mod ClaimTakersLemmas

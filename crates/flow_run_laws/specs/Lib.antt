@@ -1,0 +1,2 @@
+pub mod FoldedHistories
+pub mod ClaimTakers
