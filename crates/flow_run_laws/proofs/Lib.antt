@@ -1,2 +1,4 @@
 pub mod FoldedHistoriesLemmas
 pub mod ClaimTakersLemmas
+pub mod OtherSides
+pub mod NumberedFoldsLemmas

@@ -1,2 +1,3 @@
 pub mod FoldedHistories
 pub mod ClaimTakers
+pub mod NumberedFolds
