@@ -2,3 +2,5 @@ pub mod FoldedHistoriesLemmas
 pub mod ClaimTakersLemmas
 pub mod OtherSides
 pub mod NumberedFoldsLemmas
+pub mod Numbered
+pub mod OptionNumbersLemmas

@@ -1,3 +1,4 @@
 pub mod FoldedHistories
 pub mod ClaimTakers
 pub mod NumberedFolds
+pub mod OptionNumbers
