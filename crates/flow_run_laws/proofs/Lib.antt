@@ -4,3 +4,4 @@ pub mod OtherSides
 pub mod NumberedFoldsLemmas
 pub mod Numbered
 pub mod OptionNumbersLemmas
+pub mod DroppedNumbersLemmas
