@@ -1,12 +1,12 @@
 -- The taker of a claim that is out: its taking is the last on its event, and stands among those of the history.
-use Rattle.std.proofs.Common.{◌≡◌, ℕ, ◌+◌, Bool, ◌==◌, IsTrue, IsSome, List, [], ◌∷◌, ◌++◌, length, map, Option, Some, None, option_map, filter, refl, sym, ap, ◌∙◌, subst, append-nil, true≢false, inl, inr, ⊎_elim, ◌⊎◌, arith}
+use Rattle.std.proofs.Common.{◌≡◌, ℕ, ◌+◌, Bool, IsTrue, IsSome, List, [], ◌∷◌, ◌++◌, length, map, Option, Some, None, option_map, filter, refl, sym, ap, ◌∙◌, subst, append-nil, true≢false, inl, inr, ⊎_elim, arith}
 use Rattle.std.proofs.lemmas.Bool.{cases_Bool, eq-eqb, ne_eqb}
 use Rattle.flow_model.specs.declared.history.Entry.{Entry}
 use Rattle.flow_model.specs.declared.labels.Label.{Label}
-use Rattle.flow_model.specs.Lists.{◌∈◌, Each, AreDistinct, Begins, numbers_from}
+use Rattle.flow_model.specs.Lists.{◌∈◌, AreDistinct, Begins}
 use Rattle.flow_model.specs.Facts.{event_at, is_event}
 use Rattle.flow_model.specs.Schema.{Schema}
-use Rattle.flow_model.specs.Run.{Claim, RunState, is_current, current_leaves, first_state, next_state, IsLegal, IsLegalFrom, state_of}
+use Rattle.flow_model.specs.Run.{Claim, RunState, is_current, first_state, next_state, IsLegal, IsLegalFrom, state_of}
 use Rattle.flow_model.specs.Takers.{Taking, taking_of, takings_of, taker_of, IsOut, IsTakenBy}
 use Rattle.flow_model.proofs.Lists.{each_member}
 use Rattle.flow_model.proofs.MadeLists.{mem-map, some_same, distinct-numbers_from}

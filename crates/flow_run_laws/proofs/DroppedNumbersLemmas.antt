@@ -1,37 +1,21 @@
 -- The numbers of the options that are told.
-use Rattle.std.proofs.Common.{◌≡◌, ℕ, zero, suc, ◌+◌, List, [], ◌∷◌, ◌++◌, length, map, Some, slice_get, flat_map, refl, sym, ap, ◌∙◌, subst, inl, inr, ⊎_elim, arith}
-use Rattle.std.proofs.lemmas.List.{length-map, map-append}
-use Rattle.std.proofs.lemmas.List.Concat.{flat_map-cons}
+use Rattle.std.proofs.Common.{◌≡◌, ℕ, zero, suc, ◌+◌, List, [], ◌∷◌, length, map, Some, slice_get, refl, sym, ap, ◌∙◌, subst, inl, inr, arith}
+use Rattle.std.proofs.lemmas.List.{length-map}
 use Rattle.flow_model.specs.Lists.{◌∈◌, Each}
 use Rattle.flow_model.specs.Process.{Process}
-use Rattle.flow_model.specs.Schema.{Schema}
 use Rattle.flow_model.specs.Resolution.{ChoiceOption}
-use Rattle.flow_model.specs.Folding.{folded_options, folded_options_in, folded_resolutions, folded_ways, is_named}
+use Rattle.flow_model.specs.Folding.{folded_options_in, folded_resolutions, folded_ways, is_named}
 use Rattle.flow_model.proofs.Lists.{mem_append_left, mem_append_right, each-append, each_to, each_member}
 use Rattle.flow_model.proofs.MadeLists.{some_same}
 use Rattle.flow_excise.specs.declared.refusal.Dropped.{Dropped}
 use Rattle.flow_excise.specs.Executions.{NumberedOption, numbered_ways, numbered_options, TellsOf, TellOfAll}
 use Rattle.flow_excise.specs.Compilation.{all_numbered}
-use Rattle.flow_run_laws.specs.DroppedNumbers.{IsOptionOf, NumberedAreTheOptions, TellsByNumber, AllAreTold, DroppedAreByNumber}
+use Rattle.flow_excise.proofs.CompilationLemmas.{told_options}
+use Rattle.flow_run_laws.specs.DroppedNumbers.{IsOptionOf, NumberedAreTheOptions, TellsByNumber, DroppedAreByNumber}
 use Rattle.flow_run_laws.proofs.Numbered.{of_mapped, mapped}
 
 abbrev numbered : ℕ → ℕ → ChoiceOption → NumberedOption
 numbered i j o = record { resolution = i; way = j; option = o }
-
-abbrev option_of : NumberedOption → ChoiceOption
-option_of n = n.option
-
--- In order
-
-ways_in_order : (i j : ℕ) (os : List ChoiceOption) → map option_of (numbered_ways i j os) ≡ os
-ways_in_order i j [] = refl
-ways_in_order i j (o ∷ os) = ap (λ l. o ∷ l) (ways_in_order i (j + 1) os)
-
-options_in_order : (f : Process → List ChoiceOption) (i : ℕ) (qs : List Process) → map option_of (numbered_options i (map f qs)) ≡ flat_map f qs
-options_in_order f i [] = refl
-options_in_order f i (q ∷ qs) =
-    map-append option_of (numbered_ways i 0 (f q)) (numbered_options (i + 1) (map f qs))
-    ∙ ((λ k. ways_in_order i 0 (f q) k ++ options_in_order f (i + 1) qs k) ∙ sym (flat_map-cons f q qs))
 
 -- With their numbers
 
@@ -62,7 +46,7 @@ options_numbered i (os ∷ oss) = each-append (IsOptionFrom i (os ∷ oss)) (num
 
 pub numbered_are_the_options : NumberedAreTheOptions
 numbered_are_the_options w = (
-  options_in_order (folded_options_in w) 0 goals,
+  told_options w,
   each_to (IsOptionFrom 0 (map (folded_options_in w) goals)) (λ n. IsOptionOf w n.option n.resolution n.way) (all_numbered w) has_numbers
       (options_numbered 0 (map (folded_options_in w) goals)),
 )
@@ -130,7 +114,7 @@ told_as_many (n ∷ ns) (d ∷ ds) (t, h) = ap suc (told_as_many ns ds h)
 
 pub dropped_are_by_number : DroppedAreByNumber
 dropped_are_by_number w dropped told = record {
-  count = told_as_many (all_numbered w) dropped told ∙ (sym (length-map (all_numbered w) option_of) ∙ ap length (numbered_are_the_options w).0);
+  count = told_as_many (all_numbered w) dropped told ∙ (sym (length-map (all_numbered w) (λ (n : NumberedOption). n.option)) ∙ ap length (numbered_are_the_options w).0);
   of_some = each_to (TellsOfSome (all_numbered w)) (λ d. (o : ChoiceOption) × IsOptionOf w o d.resolution d.way × TellsByNumber o d.resolution d.way d) dropped
       (λ d (n, m, t). (
         n.option,

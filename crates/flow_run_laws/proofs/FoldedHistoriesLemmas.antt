@@ -1,13 +1,12 @@
 -- Legal histories by folded options: what can be taken or done is the same by them.
-use Rattle.std.proofs.Common.{◌≡◌, ℕ, List, [], ◌⊎◌, sym, append-nil, inl, inr, ⊎_elim}
+use Rattle.std.proofs.Common.{ℕ, [], ◌⊎◌, sym, append-nil, inl, inr, ⊎_elim}
 use Rattle.flow_model.specs.Schema.{Schema}
-use Rattle.flow_model.specs.FoldedRun.{FoldedCanTake, FoldedCanDoAside}
-use Rattle.flow_model.specs.Run.{RunState, current_leaves, state_of, CanTake, CanDoAside, IsStuck}
-use Rattle.flow_model.proofs.MadeLists.{same_order, begins_front}
+use Rattle.flow_model.specs.Run.{RunState, current_leaves, state_of, CanTake, CanDoAside}
+use Rattle.flow_model.proofs.MadeLists.{same_order}
 use Rattle.flow_laws.specs.WellFormed.{IsWellFormed}
 use Rattle.flow_laws.proofs.NeverAtALoss.{sound_state, not_at_a_loss, never_stuck}
 use Rattle.flow_fold_laws.proofs.FoldedFollowingLemmas.{orders_unfold, same_can_take, same_can_do_aside}
-use Rattle.flow_run_laws.specs.FoldedHistories.{LegalStatesExtendInFolded, CanGoOnInFolded, GoesOnInFolded, IsStuckInFolded, SameStuck, NeverStuckInFolded}
+use Rattle.flow_run_laws.specs.FoldedHistories.{LegalStatesExtendInFolded, CanGoOnInFolded, GoesOnInFolded, SameStuck, NeverStuckInFolded}
 
 pub legal_states_extend_in_folded : LegalStatesExtendInFolded
 legal_states_extend_in_folded apart w f consistent keeps limit history legal front begins =

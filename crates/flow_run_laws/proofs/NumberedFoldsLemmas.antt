@@ -1,18 +1,18 @@
 -- Folding where an execution may hold an event twice: a constraint looks only at leaves outside choices, so whether an execution is
 -- good, and in order, does not depend on the sides taken at choices that are not begun.
-use Rattle.std.proofs.Common.{◌≡◌, ◌≢◌, ℕ, Bool, true, false, List, [], ◌∷◌, ◌++◌, length, Some, refl, sym, ap, ◌∙◌, subst, inl, inr, ⊎_elim, ◌⊎◌, ◌↔◌, true≢false, filter_map, arith}
+use Rattle.std.proofs.Common.{◌≡◌, ◌≢◌, ℕ, Bool, true, false, List, [], ◌∷◌, ◌++◌, length, Some, refl, sym, ◌∙◌, subst, inl, inr, ⊎_elim, ◌⊎◌, ◌↔◌, true≢false}
 use Rattle.flow_model.specs.declared.labels.Label.{Label}
 use Rattle.flow_model.specs.Lists.{◌∈◌, Each, AreDistinct, Begins, StandsBefore, AreInOrder, IsOrderOf}
-use Rattle.flow_model.specs.Process.{Process, Empty, Task, Sequence, Parallel, Choice, Isolated, leaves, IsChoiceFree}
+use Rattle.flow_model.specs.Process.{Process, Sequence, Parallel, Choice, Isolated, leaves, IsChoiceFree}
 use Rattle.flow_model.specs.Trace.{Trace}
-use Rattle.flow_model.specs.Facts.{event_at, events_of, is_event}
+use Rattle.flow_model.specs.Facts.{event_at, events_of}
 use Rattle.flow_model.specs.Constraint.{Constraint, Always, Impossible, Must, Never, Order, Not, And, Or, HappenInOrder, Meets, all_of}
 use Rattle.flow_model.specs.Ways.{normal_form, leaf_of_event}
 use Rattle.flow_model.specs.Schema.{Schema, IsGood}
-use Rattle.flow_model.specs.Resolution.{ChoiceOption, OptionTrace, options}
-use Rattle.flow_model.specs.Folding.{named_events, is_named, is_among, is_foldable, fixed_leaves, folded_ways, folded_options_by, KeepsNamedApart}
+use Rattle.flow_model.specs.Resolution.{ChoiceOption, options}
+use Rattle.flow_model.specs.Folding.{named_events, is_named, fixed_leaves, folded_options_by, KeepsNamedApart}
 use Rattle.flow_model.specs.Run.{RunState, current_leaves, MayFollow}
-use Rattle.flow_model.proofs.Lists.{mem_append_left, mem_append_right, mem-append, mem_by_halves, mem_here, mem_with, mem_without, each_to, each_member, each_from_members}
+use Rattle.flow_model.proofs.Lists.{mem_append_left, mem_append_right, mem-append, mem_by_halves, mem_with, each_to, each_member, each_from_members}
 use Rattle.flow_model.proofs.MadeLists.{distinct-numbers_from, same_order, order_member, begins_front, none_passes, of_filter_map, mem-filter_map, before-filter_map, of_before-filter_map}
 use Rattle.flow_laws.specs.Resolutions.{Resolves}
 use Rattle.flow_laws.proofs.ResolutionsLemmas.{resolves_of, mem-resolutions, choice_free_resolution, goal_trace}

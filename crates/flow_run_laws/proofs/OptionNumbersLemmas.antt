@@ -1,5 +1,5 @@
 -- Options by number.
-use Rattle.std.proofs.Common.{◌≡◌, ℕ, ◌+◌, ◌<◌, ◌*◌, ◌||◌, Bool, true, false, if◌then◌else◌, List, [], ◌∷◌, ◌++◌, length, map, Some, slice_get, flat_map, sum_by, refl, sym, ap, ◌∙◌, subst, inl, inr, ⊎_elim, arith}
+use Rattle.std.proofs.Common.{◌≡◌, ℕ, ◌+◌, ◌<◌, Bool, List, [], ◌∷◌, ◌++◌, length, map, flat_map, sum_by, refl, sym, ap, ◌∙◌, subst, inl, inr, arith}
 use Rattle.std.proofs.lemmas.Bool.{cases_Bool}
 use Rattle.std.proofs.lemmas.List.{length-map, length-append}
 use Rattle.std.proofs.lemmas.List.Sums.{sum_by-append}
@@ -9,9 +9,8 @@ use Rattle.flow_model.specs.Lists.{◌∈◌, each_with_each}
 use Rattle.flow_model.specs.Process.{Process, Empty, Task, Sequence, Parallel, Choice, Isolated, IsChoiceFree}
 use Rattle.flow_model.specs.Constraint.{all_of}
 use Rattle.flow_model.specs.Ways.{ways}
-use Rattle.flow_model.specs.Schema.{Schema}
 use Rattle.flow_model.specs.Resolution.{ChoiceOption, options, options_in, ways_in, resolutions, resolution_count}
-use Rattle.flow_model.specs.Folding.{is_foldable, folded_resolutions, folded_ways, folded_options_in, folded_options_by, KeepsNamedApart}
+use Rattle.flow_model.specs.Folding.{is_foldable, folded_resolutions, folded_ways, folded_options_in, folded_options_by}
 use Rattle.flow_model.proofs.Lists.{slice_get_append_left}
 use Rattle.flow_model.proofs.MadeLists.{slice_get_append_right, length-each_with_each, slice_get-each_with_each}
 use Rattle.flow_laws.proofs.ResolutionsLemmas.{resolves_of, choice_free_resolution, length-resolutions}

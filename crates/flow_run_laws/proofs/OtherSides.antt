@@ -1,16 +1,15 @@
 -- An execution of one unfolding of a folded goal gives way to one of another, which takes other sides of choices that are not begun:
 -- blocks of the sides that go are replaced by blocks of those that come, and all else stays in its order.
-use Rattle.std.proofs.Common.{◌≡◌, ℕ, List, [], ◌∷◌, ◌++◌, refl, sym, subst, append_assoc, append-nil, inl, inr, ⊎_elim}
+use Rattle.std.proofs.Common.{ℕ, List, [], ◌∷◌, ◌++◌, refl, sym, subst, append_assoc, append-nil, inl, inr, ⊎_elim}
 use Rattle.flow_model.specs.Lists.{◌∈◌, Each, Begins, StandsBefore, joined}
 use Rattle.flow_model.specs.Process.{Process, Empty, Task, Sequence, Parallel, Choice, Isolated, leaves}
 use Rattle.flow_model.specs.Trace.{Shuffle, both_end, from_left, from_right, as_one, Blocks, Trace}
 use Rattle.flow_model.specs.Folding.{fixed_leaves}
-use Rattle.flow_model.proofs.Lists.{Apart, mem_append_left, mem_append_right, mem-append, mem_by_halves, each-append, each_member, each_from_members, before_right}
+use Rattle.flow_model.proofs.Lists.{Apart, mem_append_left, mem_append_right, mem-append, each-append, each_member, each_from_members, before_right}
 use Rattle.flow_model.proofs.MadeLists.{joined-append, mem_joined}
 use Rattle.flow_laws.specs.Resolutions.{Resolves}
 use Rattle.flow_laws.proofs.TraceLeaves.{some_blocks, leaf_of_blocks}
 use Rattle.flow_laws.proofs.ResolutionsLemmas.{blocks_of_goal, mem-leaves_of_goal}
-use Rattle.flow_fold_laws.proofs.OutsideChoices.{fixed_left, fixed_right}
 use Rattle.flow_fold_laws.proofs.Unfoldings.{fixed_in_goal}
 use Rattle.flow_fold_laws.proofs.TakenSides.{Takes, empty, task, sequence, parallel, left, right, isolated}
 

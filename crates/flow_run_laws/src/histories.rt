@@ -1,3 +1,4 @@
+ghost use Rattle.flow_run_laws.specs.FoldedSteps.{SameAllowed, SameClaimsSpared, SameLeft, SameLegal};
 ghost use Rattle.flow_run_laws.specs.FoldedHistories.{LegalStatesExtendInFolded, GoesOnInFolded, SameStuck, NeverStuckInFolded};
 
 /// Whatever legal history was made, in some folded option its claims may still be answered in every order, and the journal begins a
@@ -12,4 +13,13 @@ pub fn law_never_at_a_loss_in_folded()
     ensures goes_on { GoesOnInFolded }
     ensures stuck { SameStuck }
     ensures without_tests { NeverStuckInFolded }
+{}
+
+/// The step table asks the same of folded options: the same entries may be made, each leaves the same state with the same claims
+/// spared, and the legal histories are the same.
+pub fn law_legal_histories_are_the_same_in_folded()
+    ensures allowed { SameAllowed }
+    ensures spared { SameClaimsSpared }
+    ensures left { SameLeft }
+    ensures legal { SameLegal }
 {}
