@@ -1,4 +1,5 @@
--- The taker of a claim that is out: its taking is the last on its event, and stands among those of the history.
+-- The taker of a claim that is out: its taking is the last on its event, and stands among those of
+-- the history.
 use Rattle.std.proofs.Common.{◌≡◌, ℕ, ◌+◌, Bool, IsTrue, IsSome, List, [], ◌∷◌, ◌++◌, length, map, Option, Some, None, option_map, filter, refl, sym, ap, ◌∙◌, subst, append-nil, true≢false, inl, inr, ⊎_elim, arith}
 use Rattle.std.proofs.lemmas.Bool.{cases_Bool, eq-eqb, ne_eqb}
 use Rattle.flow_model.specs.declared.history.Entry.{Entry}
@@ -69,16 +70,19 @@ module _ (w : Schema) (f : IsWellFormed w) (consistent : IsConsistent w) (limit 
   -- its takings are found by their numbers
   found : (t : Taking) → t ∈ (takings_of history).given → taking_of (takings_of history).given t.claim ≡ Some t
   found = found_by_number (takings_of history).given
-    (subst AreDistinct (sym sound.numbered ∙ numbers_those (state_of w history).claims (takings_of history).given (those_of w history))
-    (distinct-numbers_from 1 (length (state_of w history).claims)))
+      (subst AreDistinct (sym sound.numbered ∙ numbers_those (state_of w history).claims (takings_of history).given (those_of w history))
+      (distinct-numbers_from 1 (length (state_of w history).claims)))
 
   -- who has a leaf of an event has it alone
   alone : (n event user : ℕ) → event_at w.labels n ≡ Some event → IsTakenBy (state_of w history) (takings_of history) n user →
       IsTakenByOnly (state_of w history) (takings_of history) n user
-  alone n event user ne taken = (taken, λ other also.
-      let (c, e) = last_has_it w f consistent limit history legal n user event ne taken in
-      let (d, k) = last_has_it w f consistent limit history legal n other event ne also in
-      ap (λ (t : Taking). t.taker) (some_same (taking d n other) (taking c n user) (sym k ∙ e)))
+  alone n event user ne taken = (
+    taken,
+    λ other also.
+        let (c, e) = last_has_it w f consistent limit history legal n user event ne taken in
+        let (d, k) = last_has_it w f consistent limit history legal n other event ne also in
+        ap (λ (t : Taking). t.taker) (some_same (taking d n other) (taking c n user) (sym k ∙ e)),
+  )
 
   pub claim_has_taker : (claim n event : ℕ) → event_at w.labels n ≡ Some event → IsOut (state_of w history) claim n →
       (user : ℕ) × (taker_of history claim ≡ Some user) × IsTakenByOnly (state_of w history) (takings_of history) n user

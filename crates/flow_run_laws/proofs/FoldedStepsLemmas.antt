@@ -28,15 +28,21 @@ spared_alike w l s before claim = all_spared_alike (is_named w) w l (λ n h. h) 
 
 to_options : (w : Schema) → IsLabelled w → (s : RunState) (before : List ℕ) (claims left : List Claim) → AreSparedInFolded w s before claims left → AreSpared w s before claims left
 to_options w l s before [] left h = h
-to_options w l s before (claim ∷ claims) left (rest, h) = (rest, ⊎_elim
-    (λ (is, e, k). inl ((spared_alike w l s before claim).1 is, e, to_options w l s (before ++ claim.leaf ∷ []) claims rest k))
-    (λ (not, e, k). inr (λ is. not ((spared_alike w l s before claim).0 is), e, to_options w l s before claims rest k)) h)
+to_options w l s before (claim ∷ claims) left (rest, h) = (
+  rest,
+  ⊎_elim
+      (λ (is, e, k). inl ((spared_alike w l s before claim).1 is, e, to_options w l s (before ++ claim.leaf ∷ []) claims rest k))
+      (λ (not, e, k). inr (λ is. not ((spared_alike w l s before claim).0 is), e, to_options w l s before claims rest k)) h,
+)
 
 of_options : (w : Schema) → IsLabelled w → (s : RunState) (before : List ℕ) (claims left : List Claim) → AreSpared w s before claims left → AreSparedInFolded w s before claims left
 of_options w l s before [] left h = h
-of_options w l s before (claim ∷ claims) left (rest, h) = (rest, ⊎_elim
-    (λ (is, e, k). inl ((spared_alike w l s before claim).0 is, e, of_options w l s (before ++ claim.leaf ∷ []) claims rest k))
-    (λ (not, e, k). inr (λ is. not ((spared_alike w l s before claim).1 is), e, of_options w l s before claims rest k)) h)
+of_options w l s before (claim ∷ claims) left (rest, h) = (
+  rest,
+  ⊎_elim
+      (λ (is, e, k). inl ((spared_alike w l s before claim).0 is, e, of_options w l s (before ++ claim.leaf ∷ []) claims rest k))
+      (λ (not, e, k). inr (λ is. not ((spared_alike w l s before claim).1 is), e, of_options w l s before claims rest k)) h,
+)
 
 pub same_claims_spared : SameClaimsSpared
 same_claims_spared w l s before claims left = (

@@ -1,5 +1,6 @@
--- Folding where an execution may hold an event twice: a constraint looks only at leaves outside choices, so whether an execution is
--- good, and in order, does not depend on the sides taken at choices that are not begun.
+-- Folding where an execution may hold an event twice: a constraint looks only at leaves outside
+-- choices, so whether an execution is good, and in order, does not depend on the sides taken at
+-- choices that are not begun.
 use Rattle.std.proofs.Common.{◌≡◌, ◌≢◌, ℕ, Bool, true, false, List, [], ◌∷◌, ◌++◌, length, Some, refl, sym, ◌∙◌, subst, inl, inr, ⊎_elim, ◌⊎◌, ◌↔◌, true≢false}
 use Rattle.flow_model.specs.declared.labels.Label.{Label}
 use Rattle.flow_model.specs.Lists.{◌∈◌, Each, AreDistinct, Begins, StandsBefore, AreInOrder, IsOrderOf}
@@ -147,7 +148,8 @@ record IsLoose (q : Process) (next : List ℕ) (n : ℕ) : Type 0 where
   not_fixed : ¬ (n ∈ fixed_leaves q)
   not_next : ¬ (n ∈ next)
 
--- an execution in an unfolding of the folded option, and one of it that goes on with the same leaves in another order
+-- an execution in an unfolding of the folded option, and one of it that goes on with the same
+-- leaves in another order
 module _ (apart : ℕ → Bool) (w : Schema) (l : IsLabelled w) (keeps : KeepsNamedApart apart w) (o : ChoiceOption) (m : o ∈ folded_options_by apart w) where
   ordered : IsFoldedOrdered o.resolution o.order
   ordered = all_folded_options_are_ordered apart w l o m

@@ -108,12 +108,12 @@ sums_unfold apart (Parallel a b) f = both_unfold apart Parallel (λ x y. refl) a
 sums_unfold apart (Choice a b) f = elim (cases_Bool (is_foldable apart (Choice a b))) [
   | inl stays ↦ rw stays (omega arith)
   | inr goes ↦ rw goes (omega (
-      arith,
-      sum_by-append f (resolutions a) (resolutions b),
-      sum_by-append (λ q. sum_by f (resolutions q)) (folded_resolutions apart a) (folded_resolutions apart b),
-      sums_unfold apart a f,
-      sums_unfold apart b f,
-    ))
+    arith,
+    sum_by-append f (resolutions a) (resolutions b),
+    sum_by-append (λ q. sum_by f (resolutions q)) (folded_resolutions apart a) (folded_resolutions apart b),
+    sums_unfold apart a f,
+    sums_unfold apart b f,
+  ))
 ]
 sums_unfold apart (Isolated a) f =
     sum_mapped f Isolated (resolutions a)

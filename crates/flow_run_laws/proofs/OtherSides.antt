@@ -1,5 +1,6 @@
--- An execution of one unfolding of a folded goal gives way to one of another, which takes other sides of choices that are not begun:
--- blocks of the sides that go are replaced by blocks of those that come, and all else stays in its order.
+-- An execution of one unfolding of a folded goal gives way to one of another, which takes other
+-- sides of choices that are not begun: blocks of the sides that go are replaced by blocks of those
+-- that come, and all else stays in its order.
 use Rattle.std.proofs.Common.{ℕ, List, [], ◌∷◌, ◌++◌, refl, sym, subst, append_assoc, append-nil, inl, inr, ⊎_elim}
 use Rattle.flow_model.specs.Lists.{◌∈◌, Each, Begins, StandsBefore, joined}
 use Rattle.flow_model.specs.Process.{Process, Empty, Task, Sequence, Parallel, Choice, Isolated, leaves}

@@ -29,7 +29,8 @@ LeavesHaveOneTaker = (w : Schema) → IsWellFormed w → IsConsistent w → (lim
     (front : List Entry) → Begins history front → (n event : ℕ) → event_at w.labels n ≡ Some event → IsDoneOrOut (state_of w front) n →
     (user : ℕ) × IsTakenByOnly (state_of w front) (takings_of front) n user
 
--- where each claim was left to its taker, each such leaf has a taker whom some role allows its event
+-- where each claim was left to its taker, each such leaf has a taker whom some role allows its
+-- event
 abbrev pub TakersHaveRoles : Type 0
 TakersHaveRoles = (w : Schema) → IsWellFormed w → IsConsistent w → (d : Duties) (limit : ℕ) (history : List Entry) → IsLegal w limit history →
     IsDutiful w d history → (front : List Entry) → Begins history front → (n event : ℕ) → event_at w.labels n ≡ Some event →

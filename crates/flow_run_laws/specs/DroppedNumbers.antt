@@ -1,4 +1,5 @@
--- Options that are told by their numbers: those that a workflow is refused for, one with a circle each.
+-- Options that are told by their numbers: those that a workflow is refused for, one with a circle
+-- each.
 use Rattle.std.specs.Prelude.{◌≡◌, ℕ, List, length, map}
 use Rattle.flow_model.specs.Lists.{◌∈◌, Each}
 use Rattle.flow_model.specs.FoldedCircle.{IsFoldedCircle}
@@ -26,7 +27,8 @@ pub record TellsByNumber (o : ChoiceOption) (i j : ℕ) (d : Dropped) : Type 0 w
   pub way : d.way ≡ j
   pub circle : IsFoldedCircle o.resolution o.order d.circle.leaves.items
 
--- where all are told, as many are told as there are options; what is told is told of an option, and each option is told, by its numbers
+-- where all are told, as many are told as there are options; what is told is told of an option, and
+-- each option is told, by its numbers
 pub record AllAreTold (w : Schema) (dropped : List Dropped) : Type 0 where
   pub count : length dropped ≡ length (folded_options w)
   pub of_some : Each (λ d. (o : ChoiceOption) × IsOptionOf w o d.resolution d.way × TellsByNumber o d.resolution d.way d) dropped

@@ -1,4 +1,5 @@
--- What every legal history keeps, and that it is never at a loss, by options whose choices are folded.
+-- What every legal history keeps, and that it is never at a loss, by options whose choices are
+-- folded.
 use Rattle.std.specs.Prelude.{◌≡◌, ℕ, Bool, false, List, [], ◌⊎◌, ◌↔◌}
 use Rattle.flow_model.specs.declared.history.Entry.{Entry}
 use Rattle.flow_model.specs.Lists.{◌∈◌, Each, Begins, IsOrderOf}
@@ -16,8 +17,8 @@ abbrev pub MayAllFollowInFolded : (ℕ → Bool) → Schema → RunState → Lis
 MayAllFollowInFolded apart w s list =
     (o : ChoiceOption) × (o ∈ folded_options_by apart w) × ((order : List ℕ) → IsOrderOf order list → MayFollow w s o order)
 
--- after each front of a legal history the state is sound, in some one folded option the current claims' leaves may follow the
--- journal in every order, and the journal begins a good trace
+-- after each front of a legal history the state is sound, in some one folded option the current
+-- claims' leaves may follow the journal in every order, and the journal begins a good trace
 abbrev pub LegalStatesExtendInFolded : Type 0
 LegalStatesExtendInFolded = (apart : ℕ → Bool) (w : Schema) → IsWellFormed w → IsConsistent w → KeepsNamedApart apart w →
     (limit : ℕ) (history : List Entry) → IsLegal w limit history → (front : List Entry) → Begins history front →

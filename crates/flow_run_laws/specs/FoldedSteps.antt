@@ -1,5 +1,5 @@
--- The step table and the legal histories by options whose choices are folded: what may be taken or done, and which claims a new
--- epoch spares, is found in them.
+-- The step table and the legal histories by options whose choices are folded: what may be taken or
+-- done, and which claims a new epoch spares, is found in them.
 use Rattle.std.specs.Prelude.{◌≡◌, ℕ, ◌+◌, ◌<◌, nat_le, false, IsTrue, List, [], ◌∷◌, ◌++◌, length, take, slice_index, ◌⊎◌, ◌↔◌}
 use Rattle.std.specs.List.{filter}
 use Rattle.flow_model.specs.declared.history.Entry.{Entry}
@@ -20,11 +20,13 @@ IsAllowedInFolded w s (Took claim leaf) = (claim ≡ length s.claims + 1) × Fol
 IsAllowedInFolded w s (Did leaf) = FoldedCanDoAside w s leaf × HoldsAt w.labels (database w s) leaf
 IsAllowedInFolded w s other = IsAllowed w s other
 
--- the claim is current, and in some one folded option its leaf and those before it may follow in every order
+-- the claim is current, and in some one folded option its leaf and those before it may follow in
+-- every order
 abbrev pub IsSparedInFolded : Schema → RunState → List ℕ → Claim → Type 0
 IsSparedInFolded w s before claim = IsTrue (is_current s claim) × MayAllFollowInFolded (is_named w) w s (before ++ claim.leaf ∷ [])
 
--- each claim in turn is spared after those before it, and of the new epoch, or it is not spared and stays as it was
+-- each claim in turn is spared after those before it, and of the new epoch, or it is not spared and
+-- stays as it was
 abbrev pub AreSparedInFolded : Schema → RunState → List ℕ → List Claim → List Claim → Type 0
 AreSparedInFolded w s before [] left = left ≡ []
 AreSparedInFolded w s before (claim ∷ claims) left = (rest : List Claim) × (

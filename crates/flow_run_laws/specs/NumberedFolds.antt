@@ -1,5 +1,5 @@
--- What folding keeps of a workflow of which only this is asked, that its leaves are numbered from the left with one label each:
--- an execution may hold an event twice.
+-- What folding keeps of a workflow of which only this is asked, that its leaves are numbered from
+-- the left with one label each: an execution may hold an event twice.
 use Rattle.std.specs.Prelude.{ℕ, Bool, IsTrue, List, [], ◌∷◌, ◌++◌, length, ◌≡◌, ◌↔◌}
 use Rattle.flow_model.specs.Lists.{◌∈◌, IsOrderOf}
 use Rattle.flow_model.specs.Process.{IsNumbered}
@@ -31,8 +31,8 @@ abbrev pub AllFoldedOptionsAreOrdered : Type 0
 AllFoldedOptionsAreOrdered = (apart : ℕ → Bool) (w : Schema) → IsLabelled w → (o : ChoiceOption) → o ∈ folded_options_by apart w →
     IsFoldedOrdered o.resolution o.order
 
--- in some one folded option the leaves may follow in every order, after those that come first, exactly where they may in
--- some one option
+-- in some one folded option the leaves may follow in every order, after those that come first,
+-- exactly where they may in some one option
 abbrev pub AllOrdersUnfold : Type 0
 AllOrdersUnfold = (apart : ℕ → Bool) (w : Schema) → IsLabelled w → KeepsNamedApart apart w → (s : RunState) (first list : List ℕ) →
     ((o : ChoiceOption) × (o ∈ folded_options_by apart w) × ((order : List ℕ) → IsOrderOf order list → MayFollow w s o (first ++ order)))

@@ -1,5 +1,5 @@
--- Options by number. Each has the number of its resolution and that of its way; and as often as an option stands in the list,
--- folded options have it as an unfolding.
+-- Options by number. Each has the number of its resolution and that of its way; and as often as an
+-- option stands in the list, folded options have it as an unfolding.
 use Rattle.std.specs.Prelude.{◌≡◌, ℕ, ◌+◌, ◌*◌, Bool, false, List, ◌++◌, length, map, take, Some, Option, slice_get}
 use Rattle.std.specs.List.{sum_by}
 use Rattle.flow_model.specs.Process.{Process}
@@ -55,8 +55,8 @@ WaysAreByNumber = (x y : Normal) (leaf : ℕ → Option ℕ) →
 abbrev pub unfoldings_of : ChoiceOption → List ChoiceOption
 unfoldings_of o = map (λ u. record { resolution = u; order = o.order }) (resolutions o.resolution)
 
--- whatever is measured of an option, the options have as much as the unfoldings of the folded options: so none is lost, none
--- comes in, and one that stands twice does so in both
+-- whatever is measured of an option, the options have as much as the unfoldings of the folded
+-- options: so none is lost, none comes in, and one that stands twice does so in both
 abbrev pub UnfoldingsMeasureTheSame : Type 0
 UnfoldingsMeasureTheSame = (apart : ℕ → Bool) (w : Schema) → KeepsNamedApart apart w → (measure : ChoiceOption → ℕ) →
     sum_by measure (options w) ≡ sum_by (λ o. sum_by measure (unfoldings_of o)) (folded_options_by apart w)
