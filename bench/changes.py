@@ -68,7 +68,7 @@ CHANGES = [
     Change("A command of sessions", [
         "A command that makes an entry is a call of `flow_core` in a file of its own. One that only looks is a call of "
         "`flow_core/src/lists.rt` or `flow_core/src/next.rt`.",
-        "Its refusals, and their order, stand in the table of answers: `flow_core/specs/Answers.antt`. `flow_drive/specs/Answers.antt` "
+        "Its refusals, and their order, stand in the table of answers: `flow_core/specs/Answers.antt`. `flow_core/specs/Ask.antt` "
         "leads each command to that table.",
         "Users of a policy and kept runs answer the same commands: `flow_duty/src/decision.rt`, `flow_keep_cli/src/answers.rt`.",
         "`flow_cli` has no file that knows a command.",
@@ -184,7 +184,7 @@ CHANGES = [
         "what the gate gives it, and `stdout` is what it must write.",
         "Its line in `crates.txt` stands among the programs. `prove NAME` makes it. The gate refuses a program that takes more of the "
         "runtime than `HANDLES` allows.",
-        "`flow_front` reads and prepares. `flow_core`, `flow_drive` and `flow_crew` run. `flow_reply` and `flow_findings` print. `flow_io` "
+        "`flow_front` reads and prepares. `flow_core` and `flow_crew` run. `flow_reply` and `flow_findings` print. `flow_io` "
         "writes. `answer_alone` of `flow_cli/src/call.rt` answers a whole call of every mode without threads and is handed no runtime: a "
         "program or a library for another language exports that.",
     ], [Thing("programs and what they call", r"\bmain\b|\bread_input\b|\bprepare\b|\banswer_alone\b",
