@@ -2,7 +2,7 @@ use crate::pieces::push_line;
 use anyhow::{Context, Result};
 use std::alloc::Global;
 
-/// What a call of `flow` or `flowkeep` is given, and what it must write. In a file a row stands so:
+/// What a call of `flow`, `flowkeep` or `flowdesk` is given, and what it must write. In a file a row stands so:
 ///
 /// ```text
 /// === the name of the row
@@ -24,6 +24,9 @@ use std::alloc::Global;
 /// 01 00 00 00 00 00 00 00 00 00 00 01 00 00 00 00
 /// 00
 /// ```
+///
+/// A row of `flowdesk` goes on by the lines of the file of a run, where one is shown. A row of `flow` with a bound on what it costs
+/// goes on by the lines of another input, and its status stands so: `0 300000 20` for at most 20 times what that input costs.
 #[derive(Drop)]
 pub(crate) struct Row<'a> {
     pub(crate) name: &'a str,
@@ -38,6 +41,10 @@ pub(crate) struct Row<'a> {
     /// The bytes on the disk before the call, and after it.
     pub(crate) before: Vec<u8>,
     pub(crate) after: Vec<u8>,
+    /// The file of a run, or the input with which the cost is compared.
+    pub(crate) beside: Option<Vec<u8>>,
+    /// How many times as much as that input it may cost.
+    pub(crate) times: u64,
 }
 
 /// More bytes than any row writes.
@@ -61,12 +68,19 @@ fn hexadecimal(alloc: Global, text: &str) -> Result<Vec<u8>> {
     Ok(bytes)
 }
 
-/// A status, and how many bytes can be written.
-fn ending(line: &str) -> Result<(u8, usize)> {
-    match line.split_once(" ") {
-        None => Ok((line.parse::<u8>()?, ROOM)),
-        Some((status, room)) => Ok((status.parse::<u8>()?, room.parse::<usize>()?)),
-    }
+/// A status, how many bytes can be written, and how many times as much as another input it may cost.
+fn ending(line: &str) -> Result<(u8, usize, u64)> {
+    let mut words = line.split(" ");
+    let status = words.next().context("no status")?.parse::<u8>()?;
+    let room = match words.next() {
+        None => ROOM,
+        Some(room) => room.parse::<usize>()?,
+    };
+    let times = match words.next() {
+        None => 0,
+        Some(times) => times.parse::<u64>()?,
+    };
+    Ok((status, room, times))
 }
 
 impl<'a> Row<'a> {
@@ -77,8 +91,13 @@ impl<'a> Row<'a> {
         let (name, given) = given.split_once("\n").context("a row without a name")?;
         let (words, given) = given.split_once("\n").context("a row without words")?;
         let (status, given) = given.split_once("\n").context("a row without a status")?;
-        let (status, room) = ending(status)?;
+        let (status, room, times) = ending(status)?;
         let output = parts.next().context("a row without ---")?;
+        let (beside, before) = match parts.next() {
+            None => (None, ""),
+            Some(before) if words.starts_with("flowkeep") => (None, before),
+            Some(lines) => (Some(bytes_of(alloc, lines)?), ""),
+        };
         Ok(Row {
             name,
             words,
@@ -86,8 +105,10 @@ impl<'a> Row<'a> {
             room,
             input: bytes_of(alloc, given)?,
             output: bytes_of(alloc, output)?,
-            before: hexadecimal(alloc, parts.next().unwrap_or(""))?,
+            before: hexadecimal(alloc, before)?,
             after: hexadecimal(alloc, parts.next().unwrap_or(""))?,
+            beside,
+            times,
         })
     }
 }
