@@ -5,7 +5,8 @@ Usage: bench/documents.py [--write] [DOCUMENT.md ..] [FLOW [FLOWKEEP [FLOWDESK]]
 
 All documents, and the programs crates/NAME/out/NAME, where they are not given. docs/DOCUMENTS.md has the form of what is shown.
 COOKBOOK and SURPRISES have their blocks as rows of crates/test_cases/data too: each block has its rows and each row its block, byte
-for byte; `--write` writes these rows, with what the program writes. Ends with 1 where a document and the program, or a row, differ.
+for byte; `--write` writes these rows, with what the program writes. Where all documents are tried, docs/CHANGING.md must be what
+bench/changing.py makes of the tree. Ends with 1 where a document and the program, a row, or the tree differ.
 """
 import pathlib
 import re
@@ -15,6 +16,7 @@ import tempfile
 
 from blocks import (ASKING, PARTS, PLAIN, WORDS, Faulty, columns, first_difference, is_alike, looks_like_one, read_blocks,
                     wrong_links)
+import changing
 from executions import Workflow
 from templates import holds_by_hand, named_lists
 
@@ -331,6 +333,8 @@ def main(words):
             for block in document.blocks:
                 counts[block.word] = counts.get(block.word, 0) + 1
             print(f"{name}: {len(document.blocks)} blocks, {len(rows)} calls shown, {len(document.faults)} faults")
+    if named == DOCUMENTS:
+        faults += changing.faults()
     print("\n".join(faults), end="\n" if faults else "")
     blocks = ", ".join(f"{word} {counts[word]}" for word in sorted(counts))
     print(f"{sum(counts.values())} blocks ({blocks}), {rowed} rows, {calls} calls: {len(faults)} faults")

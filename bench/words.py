@@ -76,6 +76,15 @@ def figure(digits):
     return int(digits.replace(",", ""))
 
 
+def of_help():
+    page = text("crates/flow_words/src/help.rt")
+    bounds = re.findall(r"(?m)^ +--(\w+) N +.*, (\d+) to (\d+) \[default: (\d+)\]$", page)
+    return {
+        "modes": found(r"(?m)^  (\w+) +[A-Z]", between("Modes:", "\n\n", page)),
+        "options": {name: tuple(map(int, rest)) for name, *rest in bounds},
+    }
+
+
 def of_man_page():
     page = text("man/flow.1")
     heads = re.findall(r"(?m)^\.TP\n\.B (.*)$", between(".SH THE SESSION", "\n.SH ", page))
@@ -148,6 +157,7 @@ def of_code():
 
 
 FILES = {
+    "crates/flow_words/src/help.rt": of_help,
     "man/flow.1": of_man_page,
     "completions/flow.bash": of_bash,
     "completions/_flow": of_zsh,

@@ -1,5 +1,5 @@
 #!/usr/bin/env python3
-"""Wrong bodies of run_crew, Book::finish and audit that their contracts let through, since none says that threads run or how often a
+"""Wrong bodies of run_crew, Book::finish, audit and audit_traces that their contracts let through, since none says that threads run or how often a
 gate is asked: each must fail the tests of crates/test_threads or crates/test_calls.
 
 Usage: bench/wrong_crews.py [BODY ..]     without one all, and the right body first
@@ -74,6 +74,11 @@ WOKEN = "    idle.call_one();\n"
 ANSWERED = "        idle.answer();\n"
 TOLD = "let post = Post::new(call, outcome);\n    lock.with_turn(rt, pass, PostAndBegin { post })"
 AGAIN = "Move::Went | Move::Wait(_) => ask(rt, lock, idle, &mut pass),\n            Move::Over => break,"
+COUNTED = "    let key = idle.count_in();\n"
+SLEPT = "key.wait(rt);"
+TRACES = "audit(rt, alloc, &checker, text, cuts, workers)"
+ORDERED = "in_order(alloc, checker, text, cuts, &shares)"
+TAKEN = "for _turn in 0..cuts.len() {"
 ASKED = "let outcome = self.perform(call);"
 # Of each body the file, what it changes there, and what it adds at the end.
 BODIES = {
@@ -84,12 +89,17 @@ BODIES = {
     "three_workers_at_most": (CREW, {ALL: ALL.replace("workers", "workers.min(3)")}, ""),
     "one_worker_less": (CREW, {ALL: ALL.replace("workers", "workers - workers / 64")}, ""),
     "nobody_is_woken": (CREW, {WOKEN: ""}, ""),
+    "counted_after_its_turn": (CREW, {COUNTED: "", SLEPT: "idle.count_in().wait(rt);"}, ""),
     "called_once_for_all": (IDLE, {ANSWERED: ""}, ""),
     "who_waits_leaves": (CREW, {AGAIN: "Move::Went => ask(rt, lock, idle, &mut pass),\n            Move::Wait(_) | Move::Over => break,"}, ""),
     "leaves_after_one_task": (CREW, {TOLD: "lock.with_turn(rt, pass, Post::new(call, outcome));\n    Move::Over"}, ""),
     "finisher_asks_twice": (BOOK, {ASKED: "let _first = self.perform(call);\n            " + ASKED}, ""),
     "audit_by_one_thread": (AUDITS, {"use std::thread::{Threads, map_indices};": "use std::thread::Threads;"}, MAP_INDICES),
     "audit_by_one_worker_less": (AUDITS, {STEP: STEP.replace("workers as usize", "workers as usize - 1")}, ""),
+    "audit_by_more_threads": (AUDITS, {STEP: STEP.replace("workers as usize", "workers as usize * 2")}, ""),
+    "audit_traces_by_one_thread": (AUDITS, {TRACES: TRACES.replace("workers", "workers.min(1)")}, ""),
+    "findings_thrown_away": (AUDITS, {ORDERED: ORDERED.replace("&shares", "&shares[..0]")}, ""),
+    "one_piece_a_worker": (AUDITS, {TAKEN: TAKEN.replace("cuts.len()", "cuts.len().min(1)")}, ""),
 }
 
 

@@ -54,7 +54,9 @@ _flow() {
     # behind an option stands its number
     [[ $before == --* || $before == '=' || $word == '=' ]] && return
     [[ $before == [\<\>]* ]] && _flow_files "$word" && return
-    if [[ $word == -* ]] || _flow_has_mode; then
+    if [[ $COMP_CWORD -eq 1 && $word == -* ]]; then
+        mapfile -t COMPREPLY < <(compgen -W "${_flow_options[*]} --help --version" -- "$word")
+    elif [[ $word == -* ]] || _flow_has_mode; then
         mapfile -t COMPREPLY < <(compgen -W "$(_flow_unused "${_flow_options[@]}")" -- "$word")
     else
         mapfile -t COMPREPLY < <(compgen -W "${_flow_modes[*]}" -- "$word")

@@ -36,7 +36,7 @@ use Rattle.flow_front.specs.Input.{IsInputOf, IsReadWhole, LeavesSource}
 use Rattle.flow_reply.specs.Verdict.{ended}
 use Rattle.flow_cli.specs.Finding.{Finding, driven, ran, traced, audited, verified, tried, summarized, status_of_checked, status_of_found, finding_status, came_status, IsFound, Answers}
 use Rattle.flow_cli.specs.Large.{RunsGenerated}
-use Rattle.flow_cli.specs.Output.{Reads, Finds, IsTold, WritesOf, WritesAs, IsWhole, IsOfInput, IsOver, IsTakenFrom, IsOutcome, IsSummarized}
+use Rattle.flow_cli.specs.Output.{Reads, Finds, IsTold, WritesOf, WritesAs, IsWhole, IsOfInput, IsOver, IsTakenFrom, IsOutcome, IsText, IsSummarized}
 use Rattle.flow_cli.proofs.Refusals.{finds_later}
 
 -- ---- statuses of what is found
@@ -91,6 +91,13 @@ module _ (IsWritten : Status → List ℕ → Type 0) (left : Option (List ℕ))
     end = λ reads. absurd reads;
     refused = λ reads. absurd reads;
   }
+
+pub texts_written : (text : List ℕ) (left : Option (List ℕ)) (faults : ℕ) (result : Result Output AllocError) →
+    IfOk result (λ output. IsText text output.status output.text.items) →
+    IfOk result (λ output. IsOutcome (IsText text) ⊥ left left faults faults output.status output.text.items)
+texts_written text left faults (Err e) told = tt
+texts_written text left faults (Ok output) told =
+    unread_outcome (IsText text) left faults output.status output.text.items (subst IsOfInput (sym told.0) tt) told
 
 -- ---- what is written of a source
 
@@ -174,14 +181,14 @@ module _ (mode : Mode) (gives : Call → Outcome → Bool) (request : Request) (
     words = λ is. let no : status.ReadFault ≡ status.Words = sym told.status_is ∙ is in cc;
     fault = ((λ _. fault.0 refl), (λ _. told.status_is));
     end = λ _ over. absurd (subst IsOver told.status_is over);
-    refused = λ _ is. absurd (let no : status.ReadFault ≡ status.Refused = sym told.status_is ∙ is in cc);
+    refused = λ _ is. absurd (let no : status.ReadFault ≡ status.Input = sym told.status_is ∙ is in cc);
   }
   refused_read T refused.TooLong s output cause fault leaves told = record {
     writes = not_read refused.TooLong s output cause told;
     whole = subst IsWhole (sym told.status_is) tt;
-    words = λ is. let no : status.Refused ≡ status.Words = sym told.status_is ∙ is in cc;
+    words = λ is. let no : status.Input ≡ status.Words = sym told.status_is ∙ is in cc;
     fault = (
-      (λ is. absurd (let no : status.Refused ≡ status.ReadFault = sym told.status_is ∙ is in cc)),
+      (λ is. absurd (let no : status.Input ≡ status.ReadFault = sym told.status_is ∙ is in cc)),
       (λ more. absurd (let no : ◌≡◌ {A = Result T Stop} (Err (stop.Refused refused.TooLong)) (Err (stop.Refused refused.Read)) = fault.1 more in cc)),
     );
     end = λ _ over. absurd (subst IsOver told.status_is over);
@@ -190,9 +197,9 @@ module _ (mode : Mode) (gives : Call → Outcome → Bool) (request : Request) (
   refused_read T (refused.Text r) s output cause fault leaves told = record {
     writes = not_read (refused.Text r) s output cause told;
     whole = subst IsWhole (sym told.status_is) tt;
-    words = λ is. let no : status.Refused ≡ status.Words = sym told.status_is ∙ is in cc;
+    words = λ is. let no : status.Input ≡ status.Words = sym told.status_is ∙ is in cc;
     fault = (
-      (λ is. absurd (let no : status.Refused ≡ status.ReadFault = sym told.status_is ∙ is in cc)),
+      (λ is. absurd (let no : status.Input ≡ status.ReadFault = sym told.status_is ∙ is in cc)),
       (λ more. absurd (let no : ◌≡◌ {A = Result T Stop} (Err (stop.Refused (refused.Text r))) (Err (stop.Refused refused.Read)) = fault.1 more in cc)),
     );
     end = λ _ over. absurd (subst IsOver told.status_is over);

@@ -10,7 +10,10 @@ use Rattle.flow_findings.specs.declared.refused.Refused.TheVariants as refused
 use Rattle.flow_words.specs.declared.request.Mode.{Mode}
 use Rattle.flow_words.specs.declared.request.Mode.TheVariants.{Drive, Run, Check, Verify, Trace, Gen, Large, Duty, Audit}
 use Rattle.flow_words.specs.declared.request.Request.{Request}
-use Rattle.flow_words.specs.Words.{IsCall, IsNoCall}
+use Rattle.flow_words.specs.declared.purpose.Purpose.{Purpose}
+use Rattle.flow_words.specs.declared.purpose.Purpose.TheVariants.{Answer, Help, Version}
+use Rattle.flow_words.specs.declared.help.TheConstants.{HELP, VERSION}
+use Rattle.flow_words.specs.Words.{IsFor, IsNoCall}
 use Rattle.flow_front.specs.declared.status.Status.{Status}
 use Rattle.flow_front.specs.declared.status.Status.TheVariants as status
 use Rattle.flow_front.specs.Status.{Tells}
@@ -31,6 +34,11 @@ abbrev pub Reads : Mode → Type 0
 Reads Gen = ⊥
 Reads Large = ⊥
 Reads other = Unit {0}
+
+-- the call is for an answer of such a mode
+abbrev pub ReadsFor : Purpose → Type 0
+ReadsFor (Answer request) = Reads request.mode
+ReadsFor other = ⊥
 
 -- the mode performs no tasks
 abbrev pub AsksNoGate : Mode → Type 0
@@ -100,12 +108,22 @@ WritesAs Gen gives request source status output = IsGenerated request status out
 WritesAs Large gives request source status output = IsSummarized gives request status output
 WritesAs mode gives request source status output = WritesOf (Finds mode gives request) source status output
 
--- For these words and this source the call writes that output with that status: wrong words are refused first, then a
--- source that fails, and then the first cause of the mode that applies, if there is one.
+-- the output is that text
+abbrev pub IsText : List ℕ → Status → List ℕ → Type 0
+IsText text ending output = (ending ≡ status.Fine) × (output ≡ text)
+
+-- what is written for such a purpose
+abbrev pub WritesFor : Purpose → (Call → Outcome → Bool) → Option (List ℕ) → Status → List ℕ → Type 0
+WritesFor (Answer request) gives source ending output = WritesAs request.mode gives request source ending output
+WritesFor Help gives source ending output = IsText HELP.now ending output
+WritesFor Version gives source ending output = IsText VERSION.now ending output
+
+-- For these words and this source the call writes that output with that status: wrong words are refused first, and a text about the program
+-- is written whatever the source. Then a source that fails is refused, and then the first cause of the mode that applies, if there is one.
 abbrev pub Writes : (Call → Outcome → Bool) → List (List ℕ) → Option (List ℕ) → Status → List ℕ → Type 0
 Writes gives words source status output =
     (IsNoCall words × Tells [] refused.Words status output)
-    ⊎ ((request : Request) × IsCall words request × WritesAs request.mode gives request source status output)
+    ⊎ ((purpose : Purpose) × IsFor words purpose × WritesFor purpose gives source status output)
 
 -- the call wrote its whole output, and no fault and no want of memory ended it
 abbrev pub IsWhole : Status → Type 0
@@ -115,7 +133,7 @@ IsWhole other = Unit {0}
 
 -- the answer to an input that was read
 abbrev pub IsOfInput : Status → Type 0
-IsOfInput status.Refused = Unit {0}
+IsOfInput status.Input = Unit {0}
 IsOfInput status.Fine = Unit {0}
 IsOfInput status.No = Unit {0}
 IsOfInput status.Spent = Unit {0}
@@ -142,7 +160,7 @@ pub record IsOutcome (IsWritten : Status → List ℕ → Type 0) (reads : Type 
   pub words : ending ≢ status.Words
   pub fault : (ending ≡ status.ReadFault) ↔ (faults < faults')
   pub end : reads → IsOver ending → IfSome left (λ _. left' ≡ Some [])
-  pub refused : reads → ending ≡ status.Refused → IsTakenFrom left left'
+  pub refused : reads → ending ≡ status.Input → IsTakenFrom left left'
 
 -- A call with these words could have ended so, by what became of the source: a failed read is told, and nothing else as one; an answer stands
 -- on the end of the source where it is to be read; a refusal comes once it is read, or too long; and wrong words leave it the same.
@@ -150,5 +168,5 @@ pub record EndsWith (call : List (List ℕ)) (same : Type 0) (left left' : Optio
   pub whole : IsWhole ending
   pub words : ending ≡ status.Words → same
   pub fault : (ending ≡ status.ReadFault) ↔ (faults < faults')
-  pub end : (request : Request) → IsCall call request → Reads request.mode → IsOver ending → IfSome left (λ _. left' ≡ Some [])
-  pub refused : (request : Request) → IsCall call request → Reads request.mode → ending ≡ status.Refused → IsTakenFrom left left'
+  pub end : (purpose : Purpose) → IsFor call purpose → ReadsFor purpose → IsOver ending → IfSome left (λ _. left' ≡ Some [])
+  pub refused : (purpose : Purpose) → IsFor call purpose → ReadsFor purpose → ending ≡ status.Input → IsTakenFrom left left'

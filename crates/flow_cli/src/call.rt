@@ -8,11 +8,11 @@ ghost use Rattle.flow_model.specs.declared.history.Outcome.{Outcome};
 ghost use Rattle.flow_form.specs.Script.{said};
 ghost use Rattle.flow_form.specs.Names.{IsClosed};
 ghost use Rattle.flow_words.specs.declared.request.Mode.{Mode};
-ghost use Rattle.flow_words.specs.declared.request.Request.{Request};
-ghost use Rattle.flow_words.specs.Words.{IsCall, IsWithin};
+ghost use Rattle.flow_words.specs.declared.purpose.Purpose.{Purpose};
+ghost use Rattle.flow_words.specs.Words.{HasWithin, IsFor, IsWithin};
 ghost use Rattle.flow_front.specs.declared.status.Status.{Status};
 ghost use Rattle.flow_cli.specs.Finding.{Answers};
-ghost use Rattle.flow_cli.specs.Output.{Reads, StartsNoThreads, Finds, IsTold, IsGenerated, WritesAs, Writes, IsWhole, IsOver, IsTakenFrom, IsOutcome, EndsWith};
+ghost use Rattle.flow_cli.specs.Output.{Reads, ReadsFor, StartsNoThreads, Finds, IsTold, IsText, IsGenerated, WritesAs, WritesFor, Writes, IsWhole, IsOver, IsTakenFrom, IsOutcome, EndsWith};
 
 use crate::audit::Auditors;
 use crate::check::check;
@@ -25,7 +25,7 @@ use flow_front::{Input, Output, Refused, Status, Stop, read_input, refuse, tell}
 use flow_gate::Gate;
 use flow_gen::generate;
 use flow_io::{Sink, Source, write_all};
-use flow_words::{Mode, Request, law_one_request, request_of};
+use flow_words::{HELP, Mode, Purpose, Request, VERSION, law_one_purpose, purpose_of};
 use std::alloc::{AllocError, Global};
 use std::sync::Wait;
 use std::thread::Threads;
@@ -253,6 +253,37 @@ fn answer<R: Threads + Wait + Sync, S: Source, G: Gate>(
     }
 }
 
+/// A text about the program, as output.
+fn write_text(alloc: Global, text: &[u8]) -> Result<Output, AllocError>
+    ensures { IfOk result (λ output. IsText text.now output.status output.text.items) }
+{
+    Ok(Output {
+        status: Status::Fine,
+        text: Vec::from_slice(alloc, text)?,
+    })
+}
+
+/// What is written for the purpose of a call.
+fn serve<R: Threads + Wait + Sync, S: Source, G: Gate>(
+    rt: &R,
+    alloc: Global,
+    purpose: Purpose,
+    source: &mut S,
+    gate: &G,
+) -> Result<Output, AllocError>
+    requires within { HasWithin purpose }
+    requires source_counts { S.faults source.old < 2 ^ 64 - 1 }
+    ensures outcome { IfOk result (λ output. IsOutcome (WritesFor purpose G.gives (S.left source.old)) (ReadsFor purpose)
+        (S.left source.old) (S.left source.new) (S.faults source.old) (S.faults source.new) output.status output.text.items) }
+    ensures unread { ¬ (ReadsFor purpose) → source.new ≡ source.old }
+{
+    match purpose {
+        Purpose::Answer(request) => answer(rt, alloc, request, source, gate),
+        Purpose::Help => write_text(alloc, HELP),
+        Purpose::Version => write_text(alloc, VERSION),
+    }
+}
+
 /// What is written for the words and what the source gives.
 fn respond<R: Threads + Wait + Sync, S: Source, G: Gate>(
     rt: &R,
@@ -266,22 +297,22 @@ fn respond<R: Threads + Wait + Sync, S: Source, G: Gate>(
     ensures whole { IfOk result (λ output. IsWhole output.status) }
     ensures words { IfOk result (λ output. output.status ≡ Status.Words → source.new ≡ source.old) }
     ensures fault { IfOk result (λ output. (output.status ≡ Status.ReadFault) ↔ (S.faults source.old < S.faults source.new)) }
-    ensures end { IfOk result (λ output. (request : Request) → IsCall (map (λ word. string_bytes word) words.now) request → Reads request.mode →
+    ensures end { IfOk result (λ output. (purpose : Purpose) → IsFor (map (λ word. string_bytes word) words.now) purpose → ReadsFor purpose →
         IsOver output.status → IfSome (S.left source.old) (λ _. S.left source.new ≡ Some [])) }
-    ensures refused { IfOk result (λ output. (request : Request) → IsCall (map (λ word. string_bytes word) words.now) request → Reads request.mode →
-        output.status ≡ Status.Refused → IsTakenFrom (S.left source.old) (S.left source.new)) }
-    ensures unread { (request : Request) → IsCall (map (λ word. string_bytes word) words.now) request → ¬ (Reads request.mode) → source.new ≡ source.old }
+    ensures refused { IfOk result (λ output. (purpose : Purpose) → IsFor (map (λ word. string_bytes word) words.now) purpose → ReadsFor purpose →
+        output.status ≡ Status.Input → IsTakenFrom (S.left source.old) (S.left source.new)) }
+    ensures unread { (purpose : Purpose) → IsFor (map (λ word. string_bytes word) words.now) purpose → ¬ (ReadsFor purpose) → source.new ≡ source.old }
 {
-    law_one_request();
-    match request_of(alloc, words)? {
-        Some(request) => answer(rt, alloc, request, source, gate),
+    law_one_purpose();
+    match purpose_of(alloc, words)? {
+        Some(purpose) => serve(rt, alloc, purpose, source, gate),
         None => tell(alloc, Refused::Words, None),
     }
 }
 
 /// The program: reads a workflow from the source, with a session, a query, a journal or several after it as the mode
-/// asks, or generates one in `gen` and `large`, and writes to the sink what comes of it. Want of memory may stand
-/// in place of every status but a write fault.
+/// asks, or generates one in `gen` and `large`, and writes to the sink what comes of it. Asked for a text about the
+/// program it reads nothing. Want of memory may stand in place of every status but a write fault.
 pub fn flow<R: Threads + Wait + Sync, S: Source, K: Sink, G: Gate>(
     rt: &R,
     alloc: Global,
@@ -307,17 +338,17 @@ pub fn flow<R: Threads + Wait + Sync, S: Source, K: Sink, G: Gate>(
     ensures nothing { result ≡ Status.Memory → K.held sink.new ≡ K.held sink.old }
 
     // When each fault is told; what wrong words leave of the source, which answers stand on a source
-    // read to its end, what a refusal leaves of it, and which modes leave it alone.
+    // read to its end, what a refusal leaves of it, and when it is left alone.
     ensures write_fault { (result ≡ Status.WriteFault) ↔ (K.faults sink.old < K.faults sink.new) }
     ensures read_fault { result ≡ Status.ReadFault → S.faults source.old < S.faults source.new }
     ensures read_fault_told { S.faults source.old < S.faults source.new →
         (result ≡ Status.ReadFault) ⊎ ((result ≡ Status.WriteFault) ⊎ (result ≡ Status.Memory)) }
     ensures words { result ≡ Status.Words → source.new ≡ source.old }
-    ensures end { (request : Request) → IsCall (map (λ word. string_bytes word) words.now) request → Reads request.mode →
+    ensures end { (purpose : Purpose) → IsFor (map (λ word. string_bytes word) words.now) purpose → ReadsFor purpose →
         IsOver result → IfSome (S.left source.old) (λ _. S.left source.new ≡ Some []) }
-    ensures refused { (request : Request) → IsCall (map (λ word. string_bytes word) words.now) request → Reads request.mode →
-        result ≡ Status.Refused → IsTakenFrom (S.left source.old) (S.left source.new) }
-    ensures unread { (request : Request) → IsCall (map (λ word. string_bytes word) words.now) request → ¬ (Reads request.mode) →
+    ensures refused { (purpose : Purpose) → IsFor (map (λ word. string_bytes word) words.now) purpose → ReadsFor purpose →
+        result ≡ Status.Input → IsTakenFrom (S.left source.old) (S.left source.new) }
+    ensures unread { (purpose : Purpose) → IsFor (map (λ word. string_bytes word) words.now) purpose → ¬ (ReadsFor purpose) →
         source.new ≡ source.old }
 {
     let output = match respond(rt, alloc, words, source, gate) {

@@ -21,14 +21,16 @@ use Rattle.flow_findings.specs.declared.refused.Refused.{Refused}
 use Rattle.flow_words.specs.declared.request.Mode.{Mode}
 use Rattle.flow_words.specs.declared.request.Mode.TheVariants as mode
 use Rattle.flow_words.specs.declared.request.Request.{Request}
-use Rattle.flow_words.specs.Words.{OneRequest}
+use Rattle.flow_words.specs.declared.purpose.Purpose.{Purpose}
+use Rattle.flow_words.specs.declared.purpose.Purpose.TheVariants.{Answer}
+use Rattle.flow_words.specs.Words.{OnePurpose}
 use Rattle.flow_front.specs.declared.status.Status.{Status}
 use Rattle.flow_front.specs.declared.status.Status.TheVariants.{ReadFault}
 use Rattle.flow_front.specs.Refusal.{workflow_part, second_part, the_workflow, IsCause}
 use Rattle.flow_reply.specs.Verdict.{ended, report_of}
 use Rattle.flow_cli.specs.Finding.{Finding, ran, IsWritten}
 use Rattle.flow_cli.specs.Run.{IsRunOf, RunsWorkflow, RunsSaid}
-use Rattle.flow_cli.specs.Output.{WritesAs}
+use Rattle.flow_cli.specs.Output.{WritesAs, WritesFor}
 use Rattle.flow_cli_laws.specs.Done.{IsInputOf, AlwaysSucceeds, ReportsSuccess, DoneRunsAreReported}
 use Rattle.flow_cli_laws.proofs.Compilations.{not_refused_within}
 use Rattle.flow_cli_laws.proofs.Expansions.{expanded_once, not_both_ways, well_formed}
@@ -109,10 +111,10 @@ module _ (gives : Call → Outcome → Bool) (request : Request) (input : List �
       of_said came (subst (λ (s : Said). IsWritten (event_names s.decls) came status output) one written)
       (subst (λ (s : Said). RunsSaid gives s request.steps request.workers came) one may)
 
--- words are a call for one request
-pub done_runs_are_reported : OneRequest → DoneRunsAreReported
-done_runs_are_reported one gives words request input w call run is all room status output fine (inl (none, told)) = absurd (none request call)
-done_runs_are_reported one gives words request input w call run is all room status output fine (inr (other, calls, writes)) =
+-- words are for one purpose
+pub done_runs_are_reported : OnePurpose → DoneRunsAreReported
+done_runs_are_reported one gives words request input w call run is all room status output fine (inl (none, told)) = absurd (none (Answer request) call)
+done_runs_are_reported one gives words request input w call run is all room status output fine (inr (purpose, is_for, writes)) =
     of_input gives request input w is all room status output fine
     (subst (λ (m : Mode). WritesAs m gives request (Some input) status output) run
-    (subst (λ (r : Request). WritesAs r.mode gives r (Some input) status output) (one words other request calls call) writes))
+    (subst (λ (p : Purpose). WritesFor p gives (Some input) status output) (one words purpose (Answer request) is_for call) writes))

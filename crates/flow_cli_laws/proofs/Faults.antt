@@ -5,6 +5,7 @@ use Rattle.flow_model.specs.declared.history.Outcome.{Outcome}
 use Rattle.flow_findings.specs.declared.refused.Refused.{Refused}
 use Rattle.flow_findings.specs.declared.refused.Refused.TheVariants as refused
 use Rattle.flow_findings.specs.Refusing.{refused_text}
+use Rattle.flow_words.specs.declared.purpose.Purpose.TheVariants.{Answer, Help, Version}
 use Rattle.flow_words.specs.declared.request.Mode.{Mode}
 use Rattle.flow_words.specs.declared.request.Mode.TheVariants.{Gen, Large}
 use Rattle.flow_words.specs.declared.request.Request.{Request}
@@ -20,8 +21,8 @@ use Rattle.flow_cli_laws.specs.Single.{FaultsAreTold}
 module _ (input output : List ℕ) where
   source_told : (why : Refused) → IsCause (the_source (Some input)) why → Tells [] why status.ReadFault output → output ≡ refused_text [] refused.Read
   source_told refused.Read cause told = told.output_is
-  source_told refused.TooLong cause told = absurd (let no : status.ReadFault ≡ status.Refused = told.status_is in cc)
-  source_told (refused.Text r) cause told = absurd (let no : status.ReadFault ≡ status.Refused = told.status_is in cc)
+  source_told refused.TooLong cause told = absurd (let no : status.ReadFault ≡ status.Input = told.status_is in cc)
+  source_told (refused.Text r) cause told = absurd (let no : status.ReadFault ≡ status.Input = told.status_is in cc)
   source_told why cause told = absurd cause
 
   -- the answer to what was read is no fault
@@ -40,4 +41,6 @@ module _ (input output : List ℕ) where
 
 pub faults_are_told : FaultsAreTold
 faults_are_told gives words input output (inl (none, told)) = let no : status.ReadFault ≡ status.Words = told.status_is in cc
-faults_are_told gives words input output (inr (request, call, h)) = mode_told input output gives request.mode request h
+faults_are_told gives words input output (inr (Answer request, call, h)) = mode_told input output gives request.mode request h
+faults_are_told gives words input output (inr (Help, asks, h)) = let no : status.ReadFault ≡ status.Fine = h.0 in cc
+faults_are_told gives words input output (inr (Version, asks, h)) = let no : status.ReadFault ≡ status.Fine = h.0 in cc

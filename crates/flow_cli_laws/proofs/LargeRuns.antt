@@ -24,13 +24,15 @@ use Rattle.flow_findings.specs.declared.refused.Refused.{Refused}
 use Rattle.flow_reply.specs.declared.summary.Summary.{Summary}
 use Rattle.flow_words.specs.declared.request.Mode.{Mode}
 use Rattle.flow_words.specs.declared.request.Request.{Request}
-use Rattle.flow_words.specs.Words.{IsWithin, OneRequest}
+use Rattle.flow_words.specs.declared.purpose.Purpose.{Purpose}
+use Rattle.flow_words.specs.declared.purpose.Purpose.TheVariants.{Answer}
+use Rattle.flow_words.specs.Words.{IsWithin, OnePurpose}
 use Rattle.flow_front.specs.declared.status.Status.{Status}
 use Rattle.flow_reply.specs.Verdict.{ended}
 use Rattle.flow_cli.specs.Finding.{Finding, summarized, summary_line, IsWritten}
 use Rattle.flow_cli.specs.Large.{summary_of, IsSummaryOf}
 use Rattle.flow_cli.specs.Run.{IsRunOf}
-use Rattle.flow_cli.specs.Output.{WritesAs, IsSummarized}
+use Rattle.flow_cli.specs.Output.{WritesAs, WritesFor, IsSummarized}
 use Rattle.flow_cli_laws.specs.Done.{AlwaysSucceeds, TellsSuccess, DoneLargeRunsAreTold, DoneLinesAreSingle}
 use Rattle.flow_cli_laws.proofs.DoneReports.{succeeds, commits_at_once}
 use Rattle.flow_cli_laws.proofs.Expansions.{well_formed}
@@ -120,13 +122,13 @@ module _ (gives : Call → Outcome → Bool) (request : Request) (w : Definition
       ∙ sym (the_definition request.seed request.size within.size_some within.size_few w expanded) in
       summarized_told came v summary meant status output one is found written
 
--- words are a call for one request
-pub large_runs_are_told : OneRequest → DoneLargeRunsAreTold
-large_runs_are_told one gives words request w source asks status output (inl (none, told)) = absurd (none request asks.call)
-large_runs_are_told one gives words request w source asks status output (inr (other, calls, writes)) =
+-- words are for one purpose
+pub large_runs_are_told : OnePurpose → DoneLargeRunsAreTold
+large_runs_are_told one gives words request w source asks status output (inl (none, told)) = absurd (none (Answer request) asks.call)
+large_runs_are_told one gives words request w source asks status output (inr (purpose, is_for, writes)) =
     writes_told gives request w asks.within asks.expanded asks.never_fails asks.room status output
     (subst (λ (m : Mode). WritesAs m gives request source status output) asks.large
-    (subst (λ (r : Request). WritesAs r.mode gives r source status output) (one words other request calls asks.call) writes))
+    (subst (λ (p : Purpose). WritesFor p gives source status output) (one words purpose (Answer request) is_for asks.call) writes))
 
 -- ---- two lines
 
@@ -171,7 +173,7 @@ module _ (gives allows : Call → Outcome → Bool) (request other : Request) (w
             ∙ sym b.output_is,
       )
 
-pub lines_are_single : OneRequest → DoneLinesAreSingle
+pub lines_are_single : OnePurpose → DoneLinesAreSingle
 lines_are_single one gives allows words others request other w v source from a b seeds sizes status ending output text writes written =
     let expanded : IsExpanded (generated request.seed request.size) v =
     subst (λ (n : ℕ). IsExpanded (generated n request.size) v) (sym seeds) (subst (λ (n : ℕ). IsExpanded (generated other.seed n) v) (sym sizes) b.expanded) in

@@ -15,7 +15,7 @@ use Rattle.flow_audit.specs.declared.finding.Finding as audit
 use Rattle.flow_audit.proofs.FindingLemmas.{findings_single}
 use Rattle.flow_core.specs.Run.{Run}
 use Rattle.flow_record.specs.declared.command.Command.{Command}
-use Rattle.flow_reply.proofs.OnceLemmas.{drives_once}
+use Rattle.flow_reply.proofs.OneReply.{drives_once}
 use Rattle.flow_reply.specs.Session.{Driven, IsSession}
 use Rattle.flow_duty.specs.Single.{UserSessionsAreSingle}
 use Rattle.flow_duty.proofs.Users.{users_distinct}

@@ -10,10 +10,12 @@ use Rattle.flow_text.proofs.OneAnswer.{texts_have_one_answer}
 use Rattle.flow_findings.specs.declared.refused.Refused.{Refused}
 use Rattle.flow_findings.specs.declared.refused.Refused.TheVariants as refused
 use Rattle.flow_findings.specs.Refusing.{refused_text}
+use Rattle.flow_words.specs.declared.purpose.Purpose.{Purpose}
+use Rattle.flow_words.specs.declared.purpose.Purpose.TheVariants.{Answer, Help, Version}
 use Rattle.flow_words.specs.declared.request.Mode.{Mode}
 use Rattle.flow_words.specs.declared.request.Mode.TheVariants.{Drive, Run, Check, Verify, Trace, Gen, Large, Duty, Audit}
 use Rattle.flow_words.specs.declared.request.Request.{Request}
-use Rattle.flow_words.specs.Words.{OneRequest}
+use Rattle.flow_words.specs.Words.{IsCall, IsFor, OnePurpose}
 use Rattle.flow_front.specs.declared.status.Status.{Status}
 use Rattle.flow_front.specs.declared.status.Status.TheVariants.{ReadFault}
 use Rattle.flow_front.specs.Status.{status_of, Tells}
@@ -22,7 +24,7 @@ use Rattle.flow_front.specs.Input.{IsInputOf}
 use Rattle.flow_policy.specs.Laws.{PoliciesAreSingle}
 use Rattle.flow_duty.specs.Single.{UserSessionsAreSingle}
 use Rattle.flow_cli.specs.Finding.{Finding, came_text, IsWritten}
-use Rattle.flow_cli.specs.Output.{AsksNoGate, Finds, WritesOf, WritesAs}
+use Rattle.flow_cli.specs.Output.{AsksNoGate, Finds, WritesOf, WritesAs, WritesFor}
 use Rattle.flow_cli_laws.specs.Single.{Shows, OutputsAreSingle}
 use Rattle.flow_cli_laws.proofs.Agreeing.{Agree}
 use Rattle.flow_cli_laws.proofs.TextAnswers.{of_text, one_refusal, one_value, not_both}
@@ -122,13 +124,24 @@ module _ (input : List ℕ) where
     mode_once policies users gives allows request Run asks fine also p q = absurd asks
     mode_once policies users gives allows request Large asks fine also p q = absurd asks
 
--- words are a call for one request, so two outputs for them are of one mode
-pub outputs_are_single : OneRequest → PoliciesAreSingle → UserSessionsAreSingle → OutputsAreSingle
+module _ (policies : PoliciesAreSingle) (users : UserSessionsAreSingle) (gives allows : Call → Outcome → Bool) (words : List (List ℕ)) (input : List ℕ)
+    (status other : Status) (output text : List ℕ) (quiet : (request : Request) → IsCall words request → AsksNoGate request.mode)
+    (fine : ¬ (status ≡ ReadFault)) (also : ¬ (other ≡ ReadFault)) where
+  -- two outputs for one purpose
+  purpose_once : (purpose : Purpose) → IsFor words purpose → WritesFor purpose gives (Some input) status output → WritesFor purpose allows (Some input) other text →
+      Agree words input status other output text
+  purpose_once (Answer request) call h g =
+      let (is, e) = mode_once input status other output text policies users gives allows request request.mode (quiet request call) fine also h g in
+      record { status_is = is; output_is = ⊎_elim inl (λ shows. inr (request, call, shows)) e }
+  purpose_once Help asks h g = record { status_is = h.0 ∙ sym g.0; output_is = inl (h.1 ∙ sym g.1) }
+  purpose_once Version asks h g = record { status_is = h.0 ∙ sym g.0; output_is = inl (h.1 ∙ sym g.1) }
+
+-- words are for one purpose, so two outputs for them are too
+pub outputs_are_single : OnePurpose → PoliciesAreSingle → UserSessionsAreSingle → OutputsAreSingle
 outputs_are_single one policies users gives allows words input status other output text quiet fine also (inl (none, told)) (inl (wrong, tells)) =
     let same = told_once [] refused.Words refused.Words status other output text refl told tells in record { status_is = same.0; output_is = inl same.1 }
-outputs_are_single one policies users gives allows words input status other output text quiet fine also (inl (none, told)) (inr (request, call, h)) = absurd (none request call)
-outputs_are_single one policies users gives allows words input status other output text quiet fine also (inr (request, call, h)) (inl (none, told)) = absurd (none request call)
-outputs_are_single one policies users gives allows words input status other output text quiet fine also (inr (request, call, h)) (inr (again, recall, g)) =
-    let (is, e) = mode_once input status other output text policies users gives allows request request.mode (quiet request call) fine also h
-    (subst (λ (r : Request). WritesAs r.mode allows r (Some input) other text) (one words again request recall call) g) in
-    record { status_is = is; output_is = ⊎_elim inl (λ shows. inr (request, call, shows)) e }
+outputs_are_single one policies users gives allows words input status other output text quiet fine also (inl (none, told)) (inr (purpose, is, h)) = absurd (none purpose is)
+outputs_are_single one policies users gives allows words input status other output text quiet fine also (inr (purpose, is, h)) (inl (none, told)) = absurd (none purpose is)
+outputs_are_single one policies users gives allows words input status other output text quiet fine also (inr (purpose, is, h)) (inr (again, are, g)) =
+    purpose_once policies users gives allows words input status other output text quiet fine also purpose is h
+    (subst (λ (p : Purpose). WritesFor p allows (Some input) other text) (one words again purpose are is) g)

@@ -3,7 +3,7 @@ ghost use Rattle.flow_cli_laws.specs.Done.{DoneRunsAreReported, DoneLargeRunsAre
 
 use flow_duty::law_user_sessions_are_single;
 use flow_policy::law_policies_are_single;
-use flow_words::law_one_request;
+use flow_words::law_one_purpose;
 
 /// Where no tasks are performed, what is written and the status are settled by the words and the bytes that are read,
 /// but for a chain, circles or an execution that are shown where any would do. Of what workers run nothing is said, since
@@ -17,8 +17,8 @@ pub fn law_outputs_are_single()
     ensures sessions { SessionsAreSingle }
     ensures duties { DutySessionsAreSingle }
 {
-    // words are a call for one request alone, a text is one policy, and a session of users comes to one thing
-    law_one_request();
+    // words are for one purpose alone, a text is one policy, and a session of users comes to one thing
+    law_one_purpose();
     law_policies_are_single();
     law_user_sessions_are_single();
 }
@@ -29,8 +29,8 @@ pub fn law_outputs_are_single()
 pub fn law_done_runs_are_committed()
     ensures { DoneRunsAreReported }
 {
-    // words are a call for one request alone
-    law_one_request();
+    // words are for one purpose alone
+    law_one_purpose();
 }
 
 /// Where workers run a generated workflow and no task fails, with room for two entries a leaf and one more, each schedule
@@ -40,6 +40,6 @@ pub fn law_done_large_runs_are_committed()
     ensures told { DoneLargeRunsAreTold }
     ensures single { DoneLinesAreSingle }
 {
-    // words are a call for one request alone
-    law_one_request();
+    // words are for one purpose alone
+    law_one_purpose();
 }

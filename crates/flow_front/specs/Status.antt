@@ -12,7 +12,7 @@ abbrev pub code_of : Status → ℕ
 code_of ending.Fine = 0
 code_of ending.No = 1
 code_of ending.Words = 2
-code_of ending.Refused = 3
+code_of ending.Input = 3
 code_of ending.ReadFault = 4
 code_of ending.WriteFault = 5
 code_of ending.Memory = 6
@@ -21,13 +21,13 @@ code_of ending.Spent = 7
 -- a workflow that no execution meets is an answer, and one that is too large is none
 abbrev pub status_of_compiling : CompileRefusal → Status
 status_of_compiling (Inconsistent dropped) = ending.No
-status_of_compiling other = ending.Refused
+status_of_compiling other = ending.Input
 
 abbrev pub status_of : Refused → Status
 status_of refused.Words = ending.Words
 status_of refused.Read = ending.ReadFault
 status_of (refused.Compile refusal) = status_of_compiling refusal
-status_of other = ending.Refused
+status_of other = ending.Input
 
 -- the status and the output are those of the refusal, events by these names
 pub record Tells (events : List (List ℕ)) (why : Refused) (status : Status) (output : List ℕ) : Type 0 where

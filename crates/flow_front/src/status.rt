@@ -16,7 +16,7 @@ pub enum Status {
     /// The words are no call of the program.
     Words,
     /// The input is not what the mode asks for, or too large.
-    Refused,
+    Input,
     /// The source failed.
     ReadFault,
     /// The sink failed.
@@ -36,7 +36,7 @@ impl Status {
             Status::Fine => 0,
             Status::No => 1,
             Status::Words => 2,
-            Status::Refused => 3,
+            Status::Input => 3,
             Status::ReadFault => 4,
             Status::WriteFault => 5,
             Status::Memory => 6,
@@ -58,7 +58,7 @@ impl Status {
             | Refused::Journals(_)
             | Refused::Record(_)
             | Refused::Expand(_)
-            | Refused::NoRule(_) => Status::Refused,
+            | Refused::NoRule(_) => Status::Input,
             Refused::Compile(refusal) => Status::of_compiling(refusal),
         }
     }
@@ -72,7 +72,7 @@ impl Status {
             CompileRefusal::TooManyChoices { .. }
             | CompileRefusal::TooManyWays { .. }
             | CompileRefusal::TooBulky { .. }
-            | CompileRefusal::NoMemory => Status::Refused,
+            | CompileRefusal::NoMemory => Status::Input,
         }
     }
 }

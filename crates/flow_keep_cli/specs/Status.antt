@@ -21,7 +21,7 @@ abbrev pub status_of : Status → KeepStatus
 status_of front.Fine = ending.Fine
 status_of front.No = ending.No
 status_of front.Words = ending.Words
-status_of front.Refused = ending.Input
+status_of front.Input = ending.Input
 status_of front.ReadFault = ending.ReadFault
 status_of front.WriteFault = ending.WriteFault
 status_of front.Memory = ending.Memory

@@ -55,7 +55,7 @@ impl From<Status> for KeepStatus {
             Status::Fine => KeepStatus::Fine,
             Status::No => KeepStatus::No,
             Status::Words => KeepStatus::Words,
-            Status::Refused => KeepStatus::Input,
+            Status::Input => KeepStatus::Input,
             Status::ReadFault => KeepStatus::ReadFault,
             Status::WriteFault => KeepStatus::WriteFault,
             Status::Memory => KeepStatus::Memory,

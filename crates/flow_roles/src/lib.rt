@@ -9,6 +9,6 @@ mod single;
 mod take;
 
 pub use desk::Desk;
-pub use flow_policy::{Duty, read_duties};
+pub use flow_policy::{Duty, Policy, PolicyRefusal, policy_of, read_duties};
 pub use refusal::{Denied, DutyRefusal};
 pub use single::law_desk_answers_are_single;

@@ -1,2 +1,4 @@
 pub mod Reading
 pub mod Requests
+pub mod OneFault
+pub mod Purposes

@@ -1,6 +1,6 @@
 -- What the command finds in words that it reads.
 use Rattle.std.proofs.Common.{◌≡◌, ◌∙◌, ◌<◌, ◌+◌, fold, take, get_or, ◌==◌, ℕ, zero, suc, ap, sym, subst, refl, arith, inl, inr, eqb-true, cond, drop, length, List, [], ◌∷◌, map, Bool, true, false, Option, Some, None, codes, IfSome}
-use Rattle.std.specs.Prelude.{option_and_then, option_map, pos, slice_get, unwrap_or}
+use Rattle.std.specs.Prelude.{option_and_then, option_map, pos, slice_get, unwrap_or, Result, Ok, Err, IfOk, MatchResult}
 use Rattle.std.specs.List.{All, position_or_len, slice_index_or}
 use Rattle.std.specs.Str.{bytes_eq}
 use Rattle.std.specs.Str.Parse.{IsNumeral, starts_with_minus, without_leading_plus}
@@ -13,10 +13,8 @@ use Rattle.std.proofs.lemmas.List.Elements.{All-get_or}
 use Rattle.std.proofs.lemmas.Slice.Eq.{bytes_eq-Decides}
 use Rattle.std.proofs.lemmas.Str.Parse.{digit_from_value, without_leading_plus_none}
 use Rattle.flow_model.specs.declared.limits.TheConstants.{GREATEST_SEED, GREATEST_SIZE, MOST_ENTRIES, MOST_WORKERS}
-use Rattle.clap.specs.Words.{Accepts, App, Rule, Text, app_of, args_of, found_of, groups_of, matched_of, one_text, read_as, reading_of, rule_of, with_rule, without_minus, HasKind, HasMatchesOf, IsAmong, fault_of, is_simple_and_free}
-use Rattle.clap.specs.Values.{kind_of}
+use Rattle.clap.specs.Words.{Accepts, App, Rule, Text, app_of, args_of, found_of, groups_of, matched_of, one_text, read_as, reading_of, rule_of, with_rule, without_minus, FailsBy, HasKind, HasMatchesOf, fault_of, is_simple_and_free}
 use Rattle.clap.specs.declared.error.Error.{Error}
-use Rattle.clap.specs.declared.error.kind.ErrorKind.TheVariants.{OutOfMemory}
 use Rattle.clap.specs.Words.{IsParsedFrom, IsSignedIn}
 use Rattle.clap.specs.Built.{NamesNoGroup}
 use Rattle.clap.specs.Facts.{Entry, EntryPasses, HasReading, PassesArg, ValuesPass, parser_of, parser_of_value}
@@ -32,7 +30,7 @@ use Rattle.clap.specs.declared.parser.matches.Found.{Found}
 use Rattle.clap.specs.declared.parser.matches.MatchedArg.{MatchedArg}
 use Rattle.clap.proofs.CallerLemmas.{entry_by_id, same_rules_by_id}
 use Rattle.clap.proofs.WalkLemmas.{both}
-use Rattle.flow_words.specs.Command.{IsBetween, HasNumbers, flow_app, flow_rules, mode_rule, IsReading, rule_of_option, with_option}
+use Rattle.flow_words.specs.Command.{IsBetween, HasNumbers, flow_app, flow_rules, mode_rule, IsReadAs, rule_of_option, with_option}
 use Rattle.flow_words.specs.declared.command.NumberOption.{NumberOption}
 
 -- ---- the value of an entry
@@ -249,14 +247,10 @@ one_option_more options i d first old new rule within so_far is rule_is =
 -- ---- what is read of the words
 
 module _ (app : App) (is : app ≡ flow_app) (words : List Text) where
-  pub words_read : (m : ArgMatches) → (is_simple_and_free app ≡ true → fault_of app words ≡ []) → HasMatchesOf app words m → IsReading words (Some m)
-  words_read m faults matches = (
-    subst (λ (a : App). is_simple_and_free a ≡ true → fault_of a words ≡ []) is faults refl,
+  pub words_read : (r : Result ArgMatches Error) → (is_simple_and_free app ≡ true → FailsBy (fault_of app words) r) → IfOk r (HasMatchesOf app words) →
+      MatchResult r (IsReadAs words) (HasKind (fault_of flow_app words))
+  words_read (Ok m) kinds matches = (
+    subst (λ (a : App). is_simple_and_free a ≡ true → fault_of a words ≡ []) is kinds refl,
     (subst (λ (a : App). HasMatchesOf a words m) is matches refl).0,
   )
-
-  pub words_not_read : (e : Error) → (is_simple_and_free app ≡ true → HasKind (fault_of app words) e) → ¬ (kind_of e ≡ OutOfMemory) → IsReading words None
-  words_not_read e faults fed = λ read. elim (subst (λ (a : App). is_simple_and_free a ≡ true → HasKind (fault_of a words) e) is faults refl) [
-    | inl starved ↦ fed starved
-    | inr among ↦ subst (IsAmong (kind_of e)) read among
-  ]
+  words_read (Err e) kinds matches = subst (λ (a : App). is_simple_and_free a ≡ true → HasKind (fault_of a words) e) is kinds refl

@@ -1,5 +1,5 @@
 -- The command that reads the words of a call, as data, and what it finds in them.
-use Rattle.std.specs.Prelude.{◌≡◌, ◌≤◌, ℕ, pos, List, [], ◌∷◌, Option, Some, None, IfSome, codes, true}
+use Rattle.std.specs.Prelude.{◌≡◌, ◌≤◌, ℕ, pos, List, [], ◌∷◌, Some, IfSome, codes, true}
 use Rattle.std.specs.Str.Parse.{IsNumeral, digits_value, without_leading_plus}
 use Rattle.flow_model.specs.declared.limits.TheConstants.{GREATEST_SEED, GREATEST_SIZE, MOST_ENTRIES, MOST_WORKERS}
 use Rattle.clap.specs.Words.{App, Rule, Text, fault_of, found_of, matches_of, new_rule, one_text, rows_of, with_rule}
@@ -44,16 +44,15 @@ abbrev pub flow_rules : List Rule
 flow_rules = mode_rule ∷ number_rules
 
 abbrev pub flow_app : App
-flow_app = record { top = record (new_shape (codes "flow")) { rules = flow_rules }; subs = [] }
+flow_app = record { top = record (new_shape (codes "flow")) { rules = flow_rules; has_version = true }; subs = [] }
 
 -- the command reads the words
 abbrev pub IsRead : List Text → Type 0
 IsRead words = fault_of flow_app words ≡ []
 
--- the matches are those of the words, which the command reads; or there are none, where it does not
-abbrev pub IsReading : List Text → Option ArgMatches → Type 0
-IsReading words None = ¬ (IsRead words)
-IsReading words (Some m) = IsRead words × (rows_of (found_of m) ≡ matches_of flow_app words)
+-- the matches are those of the words, which the command reads
+abbrev pub IsReadAs : List Text → ArgMatches → Type 0
+IsReadAs words m = IsRead words × (rows_of (found_of m) ≡ matches_of flow_app words)
 
 -- the text is a decimal number between the least and the greatest
 pub record IsBetween (least greatest : ℕ) (text : Text) : Type 0 where

@@ -48,7 +48,9 @@ pub(crate) const OPTIONS: [NumberOption<'static>; 4] = [
 pub(crate) fn flow_command<'a>(alloc: Global) -> Result<Command<'a>, AllocError>
     ensures { IfOk result (λ command. app_of command ≡ flow_app) }
 {
-    let command = Command::new(alloc, "flow").arg(mode_argument(alloc))?;
+    let command = Command::new(alloc, "flow")
+        .version("1")
+        .arg(mode_argument(alloc))?;
     with_numbers(alloc, command, &OPTIONS)
 }
 

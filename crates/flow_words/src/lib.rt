@@ -2,8 +2,12 @@
 #![tactic(auto)]
 
 mod command;
+mod help;
+mod purpose;
 mod request;
 mod usage;
 
-pub use request::{Mode, Request, law_one_request, request_of};
+pub use help::{HELP, VERSION};
+pub use purpose::{Purpose, law_one_purpose, purpose_of};
+pub use request::{Mode, Request};
 pub use usage::print_usage;

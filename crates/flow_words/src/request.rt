@@ -1,14 +1,9 @@
-ghost use Rattle.std.specs.Prelude.{◌≡◌, ◌≤◌, ◌↔◌, ℕ, IfOk, IfSome, IsTrue, MatchOption, map};
-ghost use Rattle.std.specs.String.{string_bytes};
-ghost use Rattle.clap.specs.Values.{kind_of};
-ghost use Rattle.clap.specs.Words.{found_of, rows_of, one_of, one_text};
-ghost use Rattle.flow_words.specs.Command.{HasNumbers, IsBetween, IsReading};
-ghost use Rattle.flow_words.specs.Words.{mode_word, HasNumber, IsOf, IsCall, IsNoCall, IsWithin, OneRequest};
+ghost use Rattle.std.specs.Prelude.{◌≡◌, ℕ, IfSome, MatchOption};
+ghost use Rattle.clap.specs.Words.{found_of, rows_of, one_text};
+ghost use Rattle.flow_words.specs.Command.{HasNumbers, IsBetween};
+ghost use Rattle.flow_words.specs.Words.{mode_word, HasNumber, IsOf, IsWithin};
 
-use crate::command::flow_command;
-use clap::error::ErrorKind;
-use clap::{ArgMatches, Error};
-use std::alloc::{AllocError, Global};
+use clap::ArgMatches;
 
 /// What the program does.
 #[derive(Clone, Copy)]
@@ -65,7 +60,7 @@ impl Mode {
     }
 }
 
-/// What a call is for. A mode uses the numbers that concern it.
+/// A mode and its numbers. A mode uses the numbers that concern it.
 #[derive(Clone, Copy)]
 pub struct Request {
     pub mode: Mode,
@@ -79,45 +74,8 @@ pub struct Request {
     pub size: u32,
 }
 
-/// What the words ask for, where the command reads them.
-pub fn request_of(alloc: Global, words: &[String]) -> Result<Option<Request>, AllocError>
-    ensures call { IfOk result (λ found. MatchOption found (IsNoCall (map (λ word. string_bytes word) words.now))
-        (IsCall (map (λ word. string_bytes word) words.now))) }
-    ensures within { IfOk result (λ found. IfSome found IsWithin) }
-{
-    match read_words(alloc, words)? {
-        Some(matches) => Ok(request_in(&matches)),
-        None => Ok(None),
-    }
-}
-
-/// What the command finds in the words, where it reads them.
-fn read_words<'a>(alloc: Global, words: &'a [String]) -> Result<Option<ArgMatches<'a>>, AllocError>
-    ensures reading { IfOk result (λ found. IsReading (map (λ word. string_bytes word) words.entry.now) found) }
-    ensures numbers { IfOk result (λ found. IfSome found (λ matches. HasNumbers (found_of matches))) }
-{
-    let command = flow_command(alloc)?;
-    match command.try_get_matches_from(words) {
-        Ok(matches) => Ok(Some(matches)),
-        Err(error) => {
-            if is_starved(error) {
-                Err(AllocError)
-            } else {
-                Ok(None)
-            }
-        }
-    }
-}
-
-/// Whether the command failed for want of memory.
-fn is_starved(error: Error) -> bool
-    ensures { IsTrue result ↔ (kind_of error ≡ ErrorKind.OutOfMemory) }
-{
-    matches!(error.kind(), ErrorKind::OutOfMemory)
-}
-
 /// The request of what the command has found.
-fn request_in(matches: &ArgMatches<'_>) -> Option<Request>
+pub(crate) fn request_in(matches: &ArgMatches<'_>) -> Option<Request>
     requires { HasNumbers (found_of matches.now) }
     ensures call { MatchOption result ((request : Request) → ¬ (IsOf (rows_of (found_of matches.now)) request))
         (IsOf (rows_of (found_of matches.now))) }
@@ -157,8 +115,3 @@ fn number_in(matches: &ArgMatches<'_>, name: &str) -> Option<u32>
 {
     matches.get_one::<u32>(name)
 }
-
-/// Words are a call for one request alone.
-pub fn law_one_request()
-    ensures { OneRequest }
-{}

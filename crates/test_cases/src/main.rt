@@ -1,22 +1,25 @@
-//! Worked cases: each file that the command line names has rows, and each row says what a call of `flow` or `flowkeep` is given and
-//! what it must write. A row that comes out otherwise is printed, and then how many rows of each file were right.
+//! Worked cases: each file that the command line names has rows, and each row says what a call of `flow`, `flowkeep` or `flowdesk` is
+//! given and what it must write. A row that comes out otherwise is printed, and then how many rows of each file were right.
 #![tactic(auto)]
 
+mod colliding;
+mod costs;
+mod drawn;
 mod kept;
 mod pieces;
 mod rows;
 
 use anyhow::{Context, Result};
-use flow_cli::flow;
-use flow_gate::NoteGate;
+use costs::{answer, is_cheap};
+use drawn::drawn_by;
 use kept::{call_of, stands_when_stopped};
 use rows::Row;
 use std::alloc::Global;
 use std::rt::{Env, Files};
 use std::sync::Wait;
 use std::thread::Threads;
+use std::time::CpuClock;
 use std::{env, fs};
-use test_doubles::{MemSink, MemSource};
 
 /// The words of a command line.
 fn words_of(alloc: Global, line: &str) -> Result<Vec<String>> {
@@ -36,20 +39,21 @@ fn tell_wrong<R: Print>(rt: &R, row: &Row<'_>, status: u8, written: &[u8]) -> Re
     Ok(())
 }
 
-/// Whether a call of `flow` writes what the row says.
-fn is_answered<R: Print + AllocGlobal + Threads + Wait + Sync>(
+/// Whether a call of `flow` writes what the row says, and costs no more than it says.
+fn is_answered<R: Print + AllocGlobal + CpuClock + Threads + Wait + Sync>(
     rt: &R,
     words: &[String],
     row: &Row<'_>,
 ) -> Result<bool> {
-    let mut source = MemSource::new(row.input.to_vec(rt.alloc())?);
-    let mut sink = MemSink::new(rt.alloc(), row.room)?;
-    let status = flow(rt, rt.alloc(), words, &mut source, &mut sink, &NoteGate).code();
-    if status == row.status && sink.bytes() == row.output.as_slice() {
-        return Ok(true);
+    let (status, written) = answer(rt, words, &row.input, row.room)?;
+    if status != row.status || written.as_slice() != row.output.as_slice() {
+        tell_wrong(rt, row, status, &written)?;
+        return Ok(false);
     }
-    tell_wrong(rt, row, status, sink.bytes())?;
-    Ok(false)
+    match &row.beside {
+        None => Ok(true),
+        Some(other) => is_cheap(rt, words, row, other),
+    }
 }
 
 /// Whether a call of `flowkeep` writes and keeps what the row says, and loses nothing where its disk stops.
@@ -66,18 +70,33 @@ fn is_kept<R: Print + AllocGlobal>(rt: &R, words: &[String], row: &Row<'_>) -> R
     Ok(false)
 }
 
+/// Whether the call of `flowdesk` draws what the row says.
+fn is_drawn<R: Print + AllocGlobal>(rt: &R, words: &[String], row: &Row<'_>) -> Result<bool> {
+    let (status, written) = drawn_by(rt.alloc(), words, row)?;
+    if status == row.status && written.as_slice() == row.output.as_slice() {
+        return Ok(true);
+    }
+    tell_wrong(rt, row, status, &written)?;
+    Ok(false)
+}
+
 /// Whether the call that the row describes does what it must; what it wrote is printed where it does not.
-fn is_right<R: Print + AllocGlobal + Threads + Wait + Sync>(rt: &R, row: &Row<'_>) -> Result<bool> {
+fn is_right<R: Print + AllocGlobal + CpuClock + Threads + Wait + Sync>(
+    rt: &R,
+    row: &Row<'_>,
+) -> Result<bool> {
     let words = words_of(rt.alloc(), row.words)?;
     if row.words.starts_with("flowkeep") {
         is_kept(rt, &words, row)
+    } else if row.words.starts_with("flowdesk") {
+        is_drawn(rt, &words, row)
     } else {
         is_answered(rt, &words, row)
     }
 }
 
 /// Tries each row of a file.
-fn try_rows<R: Print + AllocGlobal + Threads + Wait + Sync>(
+fn try_rows<R: Print + AllocGlobal + CpuClock + Threads + Wait + Sync>(
     rt: &R,
     file: &str,
     text: &str,
@@ -96,7 +115,9 @@ fn try_rows<R: Print + AllocGlobal + Threads + Wait + Sync>(
     Ok(())
 }
 
-fn run<R: Print + AllocGlobal + Env + Files + Threads + Wait + Sync>(rt: &R) -> Result<()> {
+fn run<R: Print + AllocGlobal + CpuClock + Env + Files + Threads + Wait + Sync>(
+    rt: &R,
+) -> Result<()> {
     for file in env::args(rt)?.skip(1) {
         let text = fs::read_to_string(rt, file.as_str())?;
         try_rows(rt, file.as_str(), text.as_str())?;

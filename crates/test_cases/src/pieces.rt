@@ -1,10 +1,11 @@
+use crate::colliding::push_colliding;
 use anyhow::{Context, Result};
 use std::io::Write;
 
 /// Puts a line of a row behind the text.
 ///
-/// At the end of a line a backslash leaves out the line feed. Elsewhere `\r` is a carriage return, `\xC3 ` that byte, and
-/// a series in braces is its members: of the numbers 2 to 4 with a comma and a blank between, ``\{2..5`, `e#}`` is
+/// At the end of a line a backslash leaves out the line feed. Elsewhere `\r` is a carriage return, `\xC3 ` that byte,
+/// `\*100 20 ` a hundred bytes 20, `\#100 ` a hundred names that fall together under std's hash, and a series in braces is its members: of the numbers 2 to 4 with a comma and a blank between, ``\{2..5`, `e#}`` is
 /// `e2, e3, e4`. In a series `@` is the number and one, and `~` a line feed.
 pub(crate) fn push_line(text: &mut Vec<u8>, line: &str) -> Result<()> {
     let mut pieces = line.split("\\");
@@ -37,9 +38,29 @@ fn push_escape(text: &mut Vec<u8>, piece: &str) -> Result<()> {
         text.push(u8::from_str_radix(digits, 16)?)?;
         return push_plain(text, after);
     }
+    if let Some(rest) = piece.strip_prefix("*") {
+        return push_bytes(text, rest);
+    }
+    if let Some(rest) = piece.strip_prefix("#") {
+        let (count, after) = rest.split_once(" ").context("no blank after a count")?;
+        push_colliding(text, count.parse::<u32>()?)?;
+        return push_plain(text, after);
+    }
     let rest = piece.strip_prefix("{").context("no such escape")?;
     let (series, after) = rest.split_once("}").context("a series without its end")?;
     push_series(text, series)?;
+    push_plain(text, after)
+}
+
+/// One byte so many times, and what stands behind it.
+fn push_bytes(text: &mut Vec<u8>, piece: &str) -> Result<()> {
+    let (count, rest) = piece.split_once(" ").context("bytes without a count")?;
+    let (digits, after) = rest.split_once(" ").context("no blank after a byte")?;
+    let size = text.len().checked_add(count.parse::<usize>()?);
+    text.resize(
+        size.context("too many bytes")?,
+        u8::from_str_radix(digits, 16)?,
+    )?;
     push_plain(text, after)
 }
 

@@ -2,7 +2,7 @@ use crate::pieces::push_line;
 use anyhow::{Context, Result};
 use std::alloc::Global;
 
-/// What a call of `flow` or `flowkeep` is given, and what it must write. In a file a row stands so:
+/// What a call of `flow`, `flowkeep` or `flowdesk` is given, and what it must write. In a file a row stands so:
 ///
 /// ```text
 /// === the name of the row
@@ -24,6 +24,9 @@ use std::alloc::Global;
 /// 01 00 00 00 00 00 00 00 00 00 00 01 00 00 00 00
 /// 00
 /// ```
+///
+/// A row of `flowdesk` goes on by the lines of the file of a run, where one is shown. A row of `flow` with a bound on what it costs
+/// goes on by the lines of another input, and its status stands so: `0 300000 20` for at most 20 times what that input costs.
 #[derive(Drop)]
 pub(crate) struct Row<'a> {
     pub(crate) name: &'a str,
@@ -40,6 +43,10 @@ pub(crate) struct Row<'a> {
     /// The bytes on the disk before the call, and after it.
     pub(crate) before: Vec<u8>,
     pub(crate) after: Vec<u8>,
+    /// The file of a run, or the input with which the cost is compared.
+    pub(crate) beside: Option<Vec<u8>>,
+    /// How many times as much as that input it may cost.
+    pub(crate) times: u32,
 }
 
 /// More bytes than any row writes.
@@ -65,19 +72,20 @@ fn hexadecimal(alloc: Global, text: &str) -> Result<Vec<u8>> {
     Ok(bytes)
 }
 
-/// A status, how many bytes can be written, and which call of the disk is the first that fails.
-fn ending(line: &str) -> Result<(u8, usize, u32)> {
+/// A status, how many bytes can be written, and one more number: of a row of `flow`, how many times as much as another
+/// input it may cost, of a row of `flowkeep`, from which call on the disk fails.
+fn ending(line: &str) -> Result<(u8, usize, Option<u32>)> {
     let mut words = line.split_whitespace();
     let status = words.next().context("a row without a status")?;
     let room = match words.next() {
         Some(room) => room.parse::<usize>()?,
         None => ROOM,
     };
-    let stop_at = match words.next() {
-        Some(stop_at) => stop_at.parse::<u32>()?,
-        None => CALLS,
+    let further = match words.next() {
+        Some(further) => Some(further.parse::<u32>()?),
+        None => None,
     };
-    Ok((status.parse::<u8>()?, room, stop_at))
+    Ok((status.parse::<u8>()?, room, further))
 }
 
 impl<'a> Row<'a> {
@@ -88,18 +96,25 @@ impl<'a> Row<'a> {
         let (name, given) = given.split_once("\n").context("a row without a name")?;
         let (words, given) = given.split_once("\n").context("a row without words")?;
         let (status, given) = given.split_once("\n").context("a row without a status")?;
-        let (status, room, stop_at) = ending(status)?;
+        let (status, room, further) = ending(status)?;
         let output = parts.next().context("a row without ---")?;
+        let (beside, before) = match parts.next() {
+            None => (None, ""),
+            Some(before) if words.starts_with("flowkeep") => (None, before),
+            Some(lines) => (Some(bytes_of(alloc, lines)?), ""),
+        };
         Ok(Row {
             name,
             words,
             status,
             room,
-            stop_at,
+            stop_at: further.unwrap_or(CALLS),
             input: bytes_of(alloc, given)?,
             output: bytes_of(alloc, output)?,
-            before: hexadecimal(alloc, parts.next().unwrap_or(""))?,
+            before: hexadecimal(alloc, before)?,
             after: hexadecimal(alloc, parts.next().unwrap_or(""))?,
+            beside,
+            times: further.unwrap_or(0),
         })
     }
 }

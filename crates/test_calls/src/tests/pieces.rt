@@ -38,7 +38,7 @@ fn std_streams_are_written(rt: HostRuntime) {
     let mut source = StdSource::new(b"".as_slice());
     let mut sink = StdSink::new(&mut written);
     let ended = called(&rt, "flow check", &mut source, &mut sink);
-    assert!(rt; matches!(ended, Ok(Status::Refused)));
+    assert!(rt; matches!(ended, Ok(Status::Input)));
     assert_eq!(rt;
         written.as_slice(),
         b"refused: expected declaration 0\n".as_slice()
@@ -86,7 +86,7 @@ fn a_text_that_is_cut_is_answered(rt: HostRuntime) {
     for end in 0..text.len() {
         let ended = checked(&rt, &text[..end]);
         assert!(rt;
-            matches!(ended, Ok(Status::Fine | Status::No | Status::Refused)),
+            matches!(ended, Ok(Status::Fine | Status::No | Status::Input)),
             "at {end}"
         );
     }

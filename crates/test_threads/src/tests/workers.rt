@@ -12,7 +12,7 @@ use std::thread::Threads;
 use test_doubles::{CountingGate, MeetGate, MemSink, MemSource};
 
 /// More bytes than are written here.
-const ROOM: usize = 4000;
+const ROOM: usize = 200_000;
 
 /// How often a task looks for the others.
 const TURNS: u64 = 1_000_000_000;
@@ -58,7 +58,7 @@ fn words_of(alloc: Global, line: &str) -> Result<Vec<String>, AllocError> {
 }
 
 /// How the workflow is run by that command line, and what is written.
-fn ran<R: AllocGlobal + Threads + Wait + Sync, G: Gate>(
+pub(crate) fn ran<R: AllocGlobal + Threads + Wait + Sync, G: Gate>(
     rt: &R,
     line: &str,
     workflow: &str,
@@ -195,7 +195,7 @@ impl Gate for AllMeet {
 }
 
 /// `e0, e1, e2` for the three first events and a comma between them.
-fn events(alloc: Global, count: u32, between: &str) -> Result<String, AllocError> {
+pub(crate) fn events(alloc: Global, count: u32, between: &str) -> Result<String, AllocError> {
     let mut text = String::new(alloc);
     for number in 0..count {
         if number > 0 {
@@ -229,6 +229,21 @@ fn four_workers_meet(rt: HostRuntime) {
 #[test]
 fn as_many_workers_as_can_be_meet(rt: HostRuntime) {
     assert!(rt; is_fine_without(met(&rt, 64, FEWER_TURNS), "failed"));
+}
+
+/// How many short tasks come before two that are to meet.
+const SHORT_TASKS: u32 = 2_000;
+
+/// Who has nothing to do is woken at each short task, and told to wait: it must not miss that there is a second task at last.
+#[test]
+fn workers_meet_after_short_tasks(rt: HostRuntime) -> Result<(), Fail> {
+    let declared = events(rt.alloc(), SHORT_TASKS, ", ")?;
+    let in_turn = events(rt.alloc(), SHORT_TASKS, " * ")?;
+    let workflow = format!(in rt.alloc(); "event {declared}, a, b; goal {in_turn} * (a | b);")?;
+    let gate = MeetGate::new(SHORT_TASKS, SHORT_TASKS + 1, TURNS);
+    let told = ran(&rt, "flow run --workers 2", &workflow, &gate);
+    assert!(rt; is_fine_without(told, "failed"));
+    Ok(())
 }
 
 #[test]

@@ -4,7 +4,7 @@ use Rattle.flow_cli_laws.proofs.Once.{checks_once, traces_once, audits_once, ses
 use Rattle.flow_cli_laws.proofs.laws.law_outputs_are_single.Goals as goal
 
 pub returns-clause-outputs : goal.returns-clause-outputs
-returns-clause-outputs c = outputs_are_single c.law_one_request.ensures c.law_policies_are_single.ensures c.law_user_sessions_are_single.ensures
+returns-clause-outputs c = outputs_are_single c.law_one_purpose.ensures c.law_policies_are_single.ensures c.law_user_sessions_are_single.ensures
 
 pub returns-clause-faults : goal.returns-clause-faults
 returns-clause-faults c = faults_are_told
