@@ -70,7 +70,7 @@ CHANGES = [
         "`flow_core/src/lists.rt` or `flow_core/src/next.rt`.",
         "Its refusals, and their order, stand in the table of answers: `flow_core/specs/Answers.antt`. `flow_core/specs/Ask.antt` "
         "leads each command to that table.",
-        "Users of a policy and kept runs answer the same commands: `flow_duty/src/decision.rt`, `flow_keep_cli/src/answers.rt`.",
+        "Users of a policy and kept runs answer the same asks: `flow_roles/src/answer.rt`, `flow_keep/src/asked.rt`.",
         "`flow_cli` has no file that knows a command.",
     ], [Thing("a command that makes an entry", r"[Rr]ewind", r"\brewind\b"),
         Thing("a command that only looks", r"\bEnabled\b|\benabled\b", r"`enabled`|\|enabled\||^enabled$|'enabled'",
