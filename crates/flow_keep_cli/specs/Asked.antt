@@ -70,7 +70,7 @@ abbrev pub IsTakenBy : Option (List ℕ) → Option (List ℕ) → Looked → Ty
 IsTakenBy left left' (looked.Ready asked) = IsReadWhole left left'
 IsTakenBy left left' (looked.Refused output) =
     IsReadWhole left left'
-    ⊎ (((output.status ≡ front.Refused) × LosesCount left left' (GREATEST_INPUT + 1)) ⊎ (output.status ≡ front.ReadFault))
+    ⊎ (((output.status ≡ front.Input) × LosesCount left left' (GREATEST_INPUT + 1)) ⊎ (output.status ≡ front.ReadFault))
 
 -- a session of a workflow, kept in the file of that path, in so many steps at most
 pub record Wanted : Type 0 where
