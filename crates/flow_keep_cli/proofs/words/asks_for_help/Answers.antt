@@ -8,8 +8,7 @@ pub returns-in-Some : goal.returns-in-Some
 returns-in-Some c =
     let lookup = c.in-Some.ensures.lookup in
     let word = c.in-Some.word.now in
-    let at = second_is (λ word. string_bytes word) c.args.words.now word lookup.3.0 lookup.1 in
-    (
+    let at = second_is (λ word. string_bytes word) c.args.words.now word lookup.3.0 lookup.1 in (
       (λ yes. at ∙ ap Some (let same : string_bytes word ≡ codes "--help" = search rules in same)),
       (λ is. let same : string_bytes word ≡ codes "--help" = same_Some _ _ (sym at ∙ is) in search rules),
     )
