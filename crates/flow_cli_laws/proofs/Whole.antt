@@ -25,7 +25,7 @@ use Rattle.flow_policy.specs.Laws.{PoliciesAreSingle}
 use Rattle.flow_duty.specs.Single.{UserSessionsAreSingle}
 use Rattle.flow_cli.specs.Finding.{Finding, came_text, IsWritten}
 use Rattle.flow_cli.specs.Output.{AsksNoGate, Finds, WritesOf, WritesAs, WritesFor}
-use Rattle.flow_cli_laws.specs.Single.{Shows, OutputsAreSingle}
+use Rattle.flow_cli_laws.specs.Single.{Agree as OutputsAgree, Shows, OutputsAreSingle}
 use Rattle.flow_cli_laws.proofs.Agreeing.{Agree}
 use Rattle.flow_cli_laws.proofs.TextAnswers.{of_text, one_refusal, one_value, not_both}
 use Rattle.flow_cli_laws.proofs.Modes.{check_agrees, drive_agrees, duty_agrees, trace_agrees, audit_agrees, verify_agrees}
@@ -129,7 +129,7 @@ module _ (policies : PoliciesAreSingle) (users : UserSessionsAreSingle) (gives a
     (fine : ¬ (status ≡ ReadFault)) (also : ¬ (other ≡ ReadFault)) where
   -- two outputs for one purpose
   purpose_once : (purpose : Purpose) → IsFor words purpose → WritesFor purpose gives (Some input) status output → WritesFor purpose allows (Some input) other text →
-      Agree words input status other output text
+      OutputsAgree words input status other output text
   purpose_once (Answer request) call h g =
       let (is, e) = mode_once input status other output text policies users gives allows request request.mode (quiet request call) fine also h g in
       record { status_is = is; output_is = ⊎_elim inl (λ shows. inr (request, call, shows)) e }
