@@ -1,8 +1,9 @@
-//! Why: reasons as data. Why no execution meets the constraints of a workflow.
+//! Why: reasons as data. Which constraints keep a list of leaves from being the front of a good trace.
 #![tactic(auto)]
 
 mod constraints;
-mod inconsistent;
+mod contradiction;
+mod fronts;
 
+pub use contradiction::why_not;
 pub use flow_conflict::Conflict;
-pub use inconsistent::conflict;
