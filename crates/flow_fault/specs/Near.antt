@@ -1,5 +1,5 @@
 -- Words that were perhaps meant.
-use Rattle.std.specs.Prelude.{ℕ, Bool, false, ◌&&◌, ◌||◌, ◌==◌, List, [], ◌∷◌, drop}
+use Rattle.std.specs.Prelude.{ℕ, Bool, false, ◌&&◌, ◌||◌, ◌==◌, List, ◌∷◌, drop}
 use Rattle.std.specs.List.{prefix_len, zip}
 use Rattle.std.specs.Str.{bytes_eq}
 

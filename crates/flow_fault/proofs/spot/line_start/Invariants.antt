@@ -1,4 +1,4 @@
-use Rattle.std.proofs.Common.{◌≡◌, ◌≢◌, ◌≤◌, length, drop}
+use Rattle.std.proofs.Common.{◌≢◌, ◌≤◌, length, drop}
 use Rattle.flow_model.specs.Lists.{Each}
 use Rattle.flow_fault.proofs.spot.line_start.Given as goal
 

@@ -1,4 +1,4 @@
-use Rattle.std.proofs.Common.{◌≡◌, ◌≤◌, ◌+◌, ◌-◌, ℕ, List, length, take, drop, arith, refl, ap}
+use Rattle.std.proofs.Common.{◌≡◌, ◌≤◌, ◌+◌, ℕ, List, length, take, arith, refl, ap}
 use Rattle.std.proofs.lemmas.List.{length-take-le, take_rest}
 use Rattle.flow_fault.proofs.Starts.{spot_begins, spot_line, spot_within}
 use Rattle.flow_fault.proofs.spot.spot_of.Goals as goal
