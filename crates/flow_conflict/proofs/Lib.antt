@@ -1,0 +1,4 @@
+pub mod Members
+pub mod Rising
+pub mod Conflicts
+pub mod LeavingOut
