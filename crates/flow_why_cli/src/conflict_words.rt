@@ -39,7 +39,12 @@ fn push_conflict(
         push_rule(page, text, rules, *member)?;
     }
     if conflict.undecided.is_empty() {
-        return page.words("each of them is needed for that: without it the others are met\n");
+        return match conflict.members.len() {
+            1 => Ok(()),
+            _ => page.words(
+                "each of them is needed for that: without it some execution meets the others\n",
+            ),
+        };
     }
     page.words("perhaps not needed, since to see it passes the limits:\n")?;
     for member in &conflict.undecided {

@@ -6,7 +6,7 @@ pub(crate) fn wanted_words(wanted: Wanted) -> &'static str {
     match wanted {
         Wanted::Declaration => "fact, event, flow or goal",
         Wanted::Constraint => "constraint, or the end of the text",
-        Wanted::Name => "the name of an event or a sub-workflow",
+        Wanted::Name => "the name of an event, or behind flow that of a sub-workflow",
         Wanted::Fact => "the name of a fact",
         Wanted::Constant => "a name or a number, as an argument of the fact",
         Wanted::Atom => {

@@ -98,12 +98,13 @@ fn push_near(page: &mut Page, alloc: Global, text: &[u8], name: &[u8]) -> Result
         return Ok(());
     };
     let told = match near_name(&script.decls, name) {
-        Some(near) => {
+        Some(near) if near.bytes() != name => {
             page.words("hint: did you mean ")?;
             page.push(near.bytes())?;
             page.words("?\n")
         }
-        None => push_hint(
+        // a declared name is unknown where it is of another kind
+        _ => push_hint(
             page,
             "a goal has declared events and sub-workflows, a constraint declared events",
         ),

@@ -1,11 +1,13 @@
-//! `flowdesk`: draws the workflow of a file, and where a run of it stands, to the standard output.
+//! `flowdesk`: draws the workflow of a file, and where a run of it stands, to the standard output; and tells what is wrong with it.
 #![tactic(auto)]
 
 ghost use Rattle.std.specs.Prelude.{◌<◌};
 
+mod explained;
 mod message;
 mod words;
 
+use explained::explain_file;
 use flow_desk::{GREATEST_INPUT, GREATEST_RUN, drawn, read_front};
 use message::{NO_MEMORY, tell};
 use std::alloc::AllocError;
@@ -104,9 +106,12 @@ fn desk<R: Files<File = File> + Env + AllocGlobal + Print + Eprint>(rt: &R) -> u
         return NO_MEMORY;
     };
     match command.try_get_matches_from(words.as_slice()) {
-        Ok(matches) => match call_in(&matches) {
-            Some(call) => draw(rt, call),
-            None => WORDS,
+        Ok(matches) => match matches.subcommand() {
+            Some((name, words)) if name == "explain" => explain_file(rt, words),
+            _ => match call_in(&matches) {
+                Some(call) => draw(rt, call),
+                None => WORDS,
+            },
         },
         Err(error) => {
             let status = if error.use_stderr() { WORDS } else { 0 };

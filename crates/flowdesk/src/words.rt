@@ -1,3 +1,4 @@
+use crate::explained::explain_command;
 use clap::builder::ValueParser;
 use clap::{Arg, ArgAction, ArgMatches, Command};
 use flow_desk::Format;
@@ -16,11 +17,13 @@ pub(crate) struct Call<'a> {
 /// The command that reads the words of a call: what is to be done is a word of its own, and more may come.
 pub(crate) fn desk_command<'a>(alloc: Global) -> Result<Command<'a>, AllocError> {
     let draw = draw_command(alloc)?;
+    let explain = explain_command(alloc)?;
     Command::new(alloc, "flowdesk")
         .version("1")
         .about("Shows workflows of flow")
         .subcommand_required(true)
-        .subcommand(draw)
+        .subcommand(draw)?
+        .subcommand(explain)
 }
 
 /// The words that ask for a picture.
