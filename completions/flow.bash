@@ -82,7 +82,9 @@ _flowdesk() {
         --journal) _flow_files "$word" && return ;;
     esac
     if [[ $COMP_CWORD -eq 1 ]]; then
-        mapfile -t COMPREPLY < <(compgen -W "draw --help --version" -- "$word")
+        mapfile -t COMPREPLY < <(compgen -W "draw explain --help --version" -- "$word")
+    elif [[ $word == -* && ${COMP_WORDS[1]} == explain ]]; then
+        mapfile -t COMPREPLY < <(compgen -W "$(_flow_unused --circles --json)" -- "$word")
     elif [[ $word == -* ]]; then
         mapfile -t COMPREPLY < <(compgen -W "$(_flow_unused --journal --form)" -- "$word")
     else
