@@ -1,5 +1,6 @@
 mod calling;
 mod faults;
+mod kept_desks;
 mod pieces;
 mod records;
 mod runs;
