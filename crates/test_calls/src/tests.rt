@@ -1,6 +1,5 @@
 mod calling;
 mod faults;
-mod kept_desks;
 mod pieces;
 mod records;
 mod runs;

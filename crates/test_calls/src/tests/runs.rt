@@ -15,8 +15,7 @@ use std::sync::Wait;
 use std::test::Fail;
 use test_doubles::CountingGate;
 
-/// What the text says.
-pub(super) fn script_of(alloc: Global, text: &[u8]) -> Result<Script, Fail>
+fn script_of(alloc: Global, text: &[u8]) -> Result<Script, Fail>
     ensures { IfOk result (λ script. IsClosed (said script)) }
 {
     if text.len() >= 1 << 31 {
