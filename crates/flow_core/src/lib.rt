@@ -19,8 +19,8 @@ mod single;
 mod take;
 
 pub use ask::{Told, play};
-pub use flow_ask::{Answer, Ask, Made, Refusal};
 pub use asked::Asked;
+pub use flow_ask::{Answer, Ask, Made, Refusal};
 pub use flow_model::{Call, FailEffect};
 pub use next::Next;
 pub use refusal::{CommitRefusal, DoRefusal, PostRefusal, RewindRefusal, TakeRefusal};

@@ -99,3 +99,23 @@ impl<D: Disk, R: Asked + Drop> Keep<D, R> {
         disk
     }
 }
+
+impl<D: Disk> Keep<D> {
+    ghost use Rattle.flow_keep.specs.Holding.{run_of, disk_of, is_broken};
+
+    /// The kept run, asked from now on through what stands over a run with the same history.
+    pub fn through<R: Asked>(self, run: R) -> Keep<D, R>
+        requires { (R.run run).history ≡ (run_of self).history }
+        ensures run { run_of result ≡ run }
+        ensures disk { disk_of result ≡ disk_of self }
+        ensures broken { is_broken result ≡ is_broken self }
+    {
+        let Keep {
+            run: core,
+            disk,
+            broken,
+        } = self;
+        drop(core);
+        Keep { run, disk, broken }
+    }
+}

@@ -1,5 +1,5 @@
 -- What a desk answers to an ask, and which entries it makes.
-use Rattle.std.specs.Prelude.{◌≡◌, ℕ, Result}
+use Rattle.std.specs.Prelude.{◌≡◌, ℕ, List, ◌++◌, take, slice_get, Some, Result}
 use Rattle.flow_model.specs.declared.history.Entry.{Entry}
 use Rattle.flow_model.specs.declared.history.Step.{Step}
 use Rattle.flow_model.specs.declared.history.Step.TheVariants.{Took}
@@ -47,3 +47,12 @@ IsLeftFor d by other = Unit {0}
 -- the entry may be made next, and duties leave it to its caller
 abbrev pub CanMakeAt : Desked → Entry → Type 0
 CanMakeAt d entry = IsLeftFor d entry.by entry.step × CanMake d.run entry.step
+
+-- the desk with further entries
+abbrev pub with_entries : Desked → List Entry → Desked
+with_entries d entries = record d { run = record d.run { history = d.run.history ++ entries } }
+
+-- the entry at the place is the first that may not be made after those before it
+abbrev pub IsFirstUnmade : Desked → List Entry → ℕ → Type 0
+IsFirstUnmade d entries index =
+    (entry : Entry) × (slice_get entries index ≡ Some entry) × ¬ (CanMakeAt (with_entries d (take index entries)) entry)

@@ -1,4 +1,4 @@
-ghost use Rattle.std.specs.Prelude.{◌≡◌, ◌↔◌, ◌⊎◌, false, IsTrue};
+ghost use Rattle.std.specs.Prelude.{◌≡◌, ◌↔◌, ◌++◌, false, IsTrue, OnOk, IfErr};
 ghost use Rattle.flow_core.specs.Run.{with_entry};
 
 use crate::desk::Desk;
@@ -10,7 +10,7 @@ impl Desk {
     ghost use Rattle.flow_model.specs.Facts.{event_at};
     ghost use Rattle.flow_core.specs.Run.{schema};
     ghost use Rattle.flow_roles.specs.Answers.{IsLeftTo, IsLeftAt};
-    ghost use Rattle.flow_roles.specs.Ask.{DeskAnswers, IsLeftFor, CanMakeAt};
+    ghost use Rattle.flow_roles.specs.Ask.{DeskAnswers, IsLeftFor, CanMakeAt, IsFirstUnmade};
 
     /// Asks the desk one thing. The other calls that make entries are this one, each with refusals of its own.
     pub fn answer(&mut self, ask: Ask, by: u32) -> Answer
@@ -44,6 +44,20 @@ impl Desk {
         ensures allowed { IsTrue result ↔ CanMakeAt self.old entry }
     {
         self.is_left_for(entry) && self.core.make(entry)
+    }
+
+    /// Makes the entries, one after another, up to the first that may not be made, whose place is told.
+    pub fn follow(&mut self, entries: &[Entry]) -> Result<(), usize>
+        ensures ok { OnOk result (self.new.run ≡ record self.old.run { history = self.old.run.history ++ entries.now }) }
+        ensures err { IfErr result (IsFirstUnmade self.old entries.now) }
+        ensures policy { self.new.assigned ≡ self.old.assigned }
+    {
+        for (index, entry) in entries.iter().enumerate() {
+            if !self.make(*entry) {
+                return Err(index);
+            }
+        }
+        Ok(())
     }
 
     /// Whether duties leave the entry to its caller: they do, where it gives no claim.

@@ -5,7 +5,6 @@
 mod colliding;
 mod costs;
 mod drawn;
-mod explained;
 mod kept;
 mod pieces;
 mod rows;
@@ -13,7 +12,6 @@ mod rows;
 use anyhow::{Context, Result};
 use costs::{answer, is_cheap};
 use drawn::drawn_by;
-use explained::explained_by;
 use kept::{call_of, stands_when_stopped};
 use rows::Row;
 use std::alloc::Global;
@@ -72,12 +70,13 @@ fn is_kept<R: Print + AllocGlobal>(rt: &R, words: &[String], row: &Row<'_>) -> R
     Ok(false)
 }
 
-/// Whether a call of `flowdesk` ended and wrote as the row says.
-fn is_shown<R: Print>(rt: &R, row: &Row<'_>, status: u8, written: &[u8]) -> Result<bool> {
-    if status == row.status && written == row.output.as_slice() {
+/// Whether the call of `flowdesk` draws what the row says.
+fn is_drawn<R: Print + AllocGlobal>(rt: &R, words: &[String], row: &Row<'_>) -> Result<bool> {
+    let (status, written) = drawn_by(rt.alloc(), words, row)?;
+    if status == row.status && written.as_slice() == row.output.as_slice() {
         return Ok(true);
     }
-    tell_wrong(rt, row, status, written)?;
+    tell_wrong(rt, row, status, &written)?;
     Ok(false)
 }
 
@@ -89,12 +88,8 @@ fn is_right<R: Print + AllocGlobal + CpuClock + Threads + Wait + Sync>(
     let words = words_of(rt.alloc(), row.words)?;
     if row.words.starts_with("flowkeep") {
         is_kept(rt, &words, row)
-    } else if row.words.starts_with("flowdesk explain") {
-        let (status, written) = explained_by(rt.alloc(), row)?;
-        is_shown(rt, row, status, &written)
     } else if row.words.starts_with("flowdesk") {
-        let (status, written) = drawn_by(rt.alloc(), &words, row)?;
-        is_shown(rt, row, status, &written)
+        is_drawn(rt, &words, row)
     } else {
         is_answered(rt, &words, row)
     }

@@ -1,6 +1,6 @@
 use Rattle.std.proofs.Common.{◌↔◌, IsTrue, sym, subst}
 use Rattle.flow_core.specs.Make.{CanMake}
-use Rattle.flow_roles.specs.Ask.{IsLeftFor, CanMakeAt}
+use Rattle.flow_roles.specs.Ask.{IsLeftFor}
 use Rattle.flow_roles.specs.Desked.{Desked}
 use Rattle.flow_roles.specs.Invariant.{desked_by}
 use Rattle.flow_roles.proofs.Dutiful.{made_dutiful}
