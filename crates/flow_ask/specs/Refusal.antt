@@ -1,7 +1,7 @@
 -- The number of a refusal.
 use Rattle.std.specs.Prelude.{ℕ}
 use Rattle.flow_ask.specs.declared.refusal.Refusal.{Refusal}
-use Rattle.flow_ask.specs.declared.refusal.Refusal.TheVariants.{Closed, NoLeaf, WrongKind, NotEnabled, TestFalse, NoClaim, Answered, Late, NoChoice, Unfinished, ClaimsOut, Spent, Role, Separate, Bind, Holder, Broken, Disk}
+use Rattle.flow_ask.specs.declared.refusal.Refusal.TheVariants.{Closed, NoLeaf, WrongKind, NotEnabled, TestFalse, NoClaim, Answered, Late, NoChoice, Unfinished, ClaimsOut, Spent, Role, Separate, Bind, Holder, Broken, Disk, Final, Back, Close}
 
 -- the number of a refusal
 abbrev pub number_of : Refusal → ℕ
@@ -23,3 +23,6 @@ number_of (Bind index) = 15
 number_of Holder = 16
 number_of Broken = 17
 number_of Disk = 18
+number_of (Final leaf) = 19
+number_of Back = 20
+number_of Close = 21

@@ -3,7 +3,8 @@ ghost use Rattle.flow_ask.specs.Refusal.{number_of};
 
 use thiserror::Error;
 
-/// Why nothing comes of an ask: by the run, by a duty of its caller, or by the disk that keeps it. A run of itself gives the first twelve.
+/// Why nothing comes of an ask: by the run, by a duty of its caller, by the disk that keeps it, or by the rules of a case. A run of
+/// itself gives the first twelve.
 #[derive(Clone, Copy, Debug, Error)]
 pub enum Refusal {
     #[error("the run is over")]
@@ -47,10 +48,17 @@ pub enum Refusal {
     Broken,
     #[error("the step could not be kept")]
     Disk,
+    /// A step back would cut this leaf, which is the first one of a final event.
+    #[error("leaf {leaf} is done for good")]
+    Final { leaf: u32 },
+    #[error("the user may not step back")]
+    Back,
+    #[error("the user may not end the run")]
+    Close,
 }
 
 impl Refusal {
-    /// Its number: 1 to 12 of a run, 13 to 16 of a duty, 17 and 18 of a disk.
+    /// Its number: 1 to 12 of a run, 13 to 16 of a duty, 17 and 18 of a disk, 19 to 21 of the rules of a case.
     pub fn number(self) -> u8
         ensures { result ≡ number_of self }
     {
@@ -73,6 +81,9 @@ impl Refusal {
             Refusal::Holder => 16,
             Refusal::Broken => 17,
             Refusal::Disk => 18,
+            Refusal::Final { .. } => 19,
+            Refusal::Back => 20,
+            Refusal::Close => 21,
         }
     }
 }

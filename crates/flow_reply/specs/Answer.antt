@@ -8,7 +8,7 @@ use Rattle.flow_ask.specs.declared.ask.Ask.{Ask}
 use Rattle.flow_ask.specs.declared.made.Made.{Made}
 use Rattle.flow_ask.specs.declared.made.Made.TheVariants as made
 use Rattle.flow_ask.specs.declared.refusal.Refusal.{Refusal}
-use Rattle.flow_ask.specs.declared.refusal.Refusal.TheVariants.{Closed, NoLeaf, WrongKind, NotEnabled, TestFalse, NoClaim, Answered, Late, NoChoice, Unfinished, ClaimsOut, Spent, Role, Separate, Bind, Holder, Broken, Disk}
+use Rattle.flow_ask.specs.declared.refusal.Refusal.TheVariants.{Closed, NoLeaf, WrongKind, NotEnabled, TestFalse, NoClaim, Answered, Late, NoChoice, Unfinished, ClaimsOut, Spent, Role, Separate, Bind, Holder, Broken, Disk, Final, Back, Close}
 use Rattle.flow_ask.specs.Ask.{number_of}
 use Rattle.flow_core.specs.Run.{Run, now}
 use Rattle.flow_workflow.specs.Label.{event_name}
@@ -60,6 +60,9 @@ refusal_text number (Bind index) = codes "refused bind " ++ decimal index
 refusal_text number Holder = codes "refused holder " ++ decimal number
 refusal_text number Broken = codes "refused broken"
 refusal_text number Disk = codes "refused: disk"
+refusal_text number (Final leaf) = codes "refused final " ++ decimal leaf
+refusal_text number Back = codes "refused back"
+refusal_text number Close = codes "refused close"
 
 -- the answer to an ask
 abbrev pub answer_text : Run → Ask → Result Made Refusal → List ℕ

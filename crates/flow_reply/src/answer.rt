@@ -92,6 +92,9 @@ fn print_refusal(alloc: Global, number: u32, refusal: Refusal) -> Result<String,
         Refusal::Holder => print_number(alloc, "refused holder ", number),
         Refusal::Broken => print_word(alloc, "refused broken"),
         Refusal::Disk => print_word(alloc, "refused: disk"),
+        Refusal::Final { leaf } => print_number(alloc, "refused final ", leaf),
+        Refusal::Back => print_word(alloc, "refused back"),
+        Refusal::Close => print_word(alloc, "refused close"),
     }
 }
 
