@@ -1,0 +1,10 @@
+//! The folder of a case: made whole or not at all, read, and opened by one writer at a time.
+#![tactic(auto)]
+
+mod folder;
+mod locked;
+mod made;
+
+pub use folder::{CaseTexts, FolderFault, GREATEST_TEXT, read_case};
+pub use locked::{CaseDisks, open_disks};
+pub use made::make_case;

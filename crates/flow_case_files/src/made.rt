@@ -1,0 +1,64 @@
+use crate::folder::{ENTRIES, FolderFault, POLICY, TRAIL, WORKFLOW, path_in};
+use std::fs::{self, File, Files, OpenFile};
+use std::io::{self, ErrorKind, Write};
+use std::path::Path;
+
+/// Makes a file with these bytes, which are on the disk when it returns.
+fn make_file<R: Files<File = File>>(rt: &R, path: &str, bytes: &[u8]) -> io::Result<()> {
+    let mut file = File::create_new(rt, path)?;
+    file.write_all(bytes)?;
+    file.sync_all()
+}
+
+/// Makes the names in a folder durable.
+fn sync_folder<R: Files<File = File>>(rt: &R, folder: &str) -> io::Result<()> {
+    fs::open(rt, folder)?.sync_all()
+}
+
+/// The folder in which that one stands.
+fn folder_around(path: &str) -> &str {
+    match Path::new(path).parent() {
+        Some(folder) if folder.as_str() != "" => folder.as_str(),
+        _ => ".",
+    }
+}
+
+/// Makes the files of a case with no entry yet.
+fn make_files<R: Files<File = File> + AllocGlobal>(
+    rt: &R,
+    folder: &str,
+    workflow: &[u8],
+    policy: Option<&[u8]>,
+) -> Result<(), FolderFault> {
+    make_file(rt, &path_in(rt.alloc(), folder, WORKFLOW)?, workflow)?;
+    if let Some(policy) = policy {
+        make_file(rt, &path_in(rt.alloc(), folder, POLICY)?, policy)?;
+    }
+    make_file(rt, &path_in(rt.alloc(), folder, ENTRIES)?, b"")?;
+    make_file(rt, &path_in(rt.alloc(), folder, TRAIL)?, b"")?;
+    Ok(())
+}
+
+/// Makes the folder of a case that has no entry yet. It is made under the name with `.new` behind it and then renamed, so it is there
+/// whole or not at all. Where something of either name is there, nothing is done.
+pub fn make_case<R: Files<File = File> + AllocGlobal>(
+    rt: &R,
+    folder: &str,
+    workflow: &[u8],
+    policy: Option<&[u8]>,
+) -> Result<(), FolderFault> {
+    if fs::symlink_metadata(rt, folder).is_ok() {
+        return Err(FolderFault::Exists);
+    }
+    let made = format!(in rt.alloc(); "{folder}.new")?;
+    match fs::create_dir(rt, &made) {
+        Ok(()) => {}
+        Err(error) if error.kind() == ErrorKind::AlreadyExists => return Err(FolderFault::Exists),
+        Err(error) => return Err(FolderFault::System(error)),
+    }
+    make_files(rt, &made, workflow, policy)?;
+    sync_folder(rt, &made)?;
+    fs::rename(rt, &made, folder)?;
+    sync_folder(rt, folder_around(folder))?;
+    Ok(())
+}
