@@ -1,0 +1,5 @@
+pub mod Finals
+pub mod Following
+pub mod Governed
+pub mod Growth
+pub mod SingleLemmas
