@@ -1,0 +1,6 @@
+pub mod Fronts
+pub mod Places
+pub mod Trails
+pub mod Pairwise
+pub mod Undoing
+pub mod Outs

@@ -1,0 +1,4 @@
+pub mod Out
+pub mod Trail
+pub mod Undone
+pub mod Following
