@@ -1,0 +1,3 @@
+pub mod JournalLengths
+pub mod ClaimsGiven
+pub mod Members

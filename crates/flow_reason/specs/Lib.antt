@@ -1,0 +1,5 @@
+pub mod DoneBy
+pub mod Claimed
+pub mod Facts
+pub mod Reasons
+pub mod Waiting

@@ -1,0 +1,12 @@
+//! Why a leaf of a run is not taken or done now: reasons as data, the first that holds.
+#![tactic(auto)]
+
+mod claimed;
+mod done_by;
+mod facts;
+mod leaf;
+mod reason;
+mod words;
+
+pub use leaf::why_leaf;
+pub use reason::Reason;

@@ -1,0 +1,38 @@
+/// Why a leaf of a run is not taken or done now. Places of entries are counted from 0.
+#[derive(Drop)]
+pub enum Reason {
+    /// The goal has no such leaf.
+    NoLeaf,
+    /// It can be taken or done now.
+    Free,
+    /// The run is over.
+    Over,
+    /// It is done, since the entry at that place.
+    Done {
+        entry: usize,
+    },
+    /// The claim on it is out, since the entry at that place, by which the user took it.
+    Out {
+        claim: u32,
+        entry: usize,
+        user: u32,
+    },
+    /// It asks that the fact holds, or, where that is not wanted, that it does not hold. It is not so now. These leaves would make it so.
+    False {
+        fact: u32,
+        wanted: bool,
+        leaves: Vec<u32>,
+    },
+    /// The goal alone does not let it come next: in each trace of the goal that goes on from the journal and has it, these leaves, which
+    /// are not done, stand before it. Others may, too.
+    Waits {
+        leaves: Vec<u32>,
+    },
+    /// These constraints do not let it come next. Each is needed for that, but for the undecided ones: to see it would pass the limits.
+    WaitsByConstraints {
+        constraints: Vec<u32>,
+        undecided: Vec<u32>,
+    },
+    /// Something else, as a claim that is out or a leaf that was given up: of this no more is told.
+    Other,
+}
