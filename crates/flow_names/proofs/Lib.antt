@@ -1,0 +1,4 @@
+pub mod SequenceLemmas
+pub mod ClaimBounds
+pub mod SearchLemmas
+pub mod StepLemmas
