@@ -4,3 +4,5 @@ pub mod Trails
 pub mod Pairwise
 pub mod Undoing
 pub mod Outs
+pub mod PastLemmas
+pub mod FlagLemmas

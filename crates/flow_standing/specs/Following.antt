@@ -1,8 +1,10 @@
 -- A history that is followed an entry at a time.
-use Rattle.std.specs.Prelude.{◌≡◌, ℕ, zero, suc, List, [], ◌∷◌, ◌++◌, map, take, get_or, Option, Some, None, option_map, slice_get}
+use Rattle.std.specs.Prelude.{◌≡◌, ℕ, zero, suc, nat_le, Bool, true, false, List, [], ◌∷◌, ◌++◌, length, map, take, get_or, Option, Some, None, option_map, slice_get, slice_set}
+use Rattle.std.specs.List.{filter}
 use Rattle.flow_model.specs.declared.history.Entry.{Entry}
 use Rattle.flow_model.specs.declared.history.Step.{Step}
-use Rattle.flow_model.specs.declared.history.Step.TheVariants.{Took, Done, Did, Rewound}
+use Rattle.flow_model.specs.declared.history.Step.TheVariants.{Took, Done, Failed, Did, Rewound}
+use Rattle.flow_model.specs.declared.history.FailEffect.TheVariants.{Switched}
 use Rattle.flow_model.specs.Schema.{Schema}
 use Rattle.flow_model.specs.Takers.{Taking, takings_of}
 use Rattle.flow_model.specs.Run.{RunState, state_of, IsCurrent}
@@ -61,3 +63,19 @@ FindsOut w history place entry (Some out) =
 abbrev pub index_cut : Step → Option ℕ
 index_cut (Rewound index) = Some index
 index_cut other = None
+
+-- the leaf at an index of the journal
+abbrev pub leaf_at : List Doing → ℕ → ℕ
+leaf_at trail index = get_or (map leaf_done trail) index 0
+
+-- the bans after a step, where that stands on the journal before it
+abbrev pub next_bans : (ℕ → ℕ) → List Doing → List (ℕ × ℕ) → Step → List (ℕ × ℕ)
+next_bans leaf_of trail bans (Failed claim Switched) = bans ++ (length trail, leaf_of claim) ∷ []
+next_bans leaf_of trail bans (Rewound index) = filter (λ ban. nat_le ban.0 index) bans ++ (index, leaf_at trail index) ∷ []
+next_bans leaf_of trail bans other = bans
+
+-- of each leaf whether the last claim on it failed, after a step
+abbrev pub next_flags : (ℕ → ℕ) → List Bool → Step → List Bool
+next_flags leaf_of flags (Took claim leaf) = slice_set flags leaf false
+next_flags leaf_of flags (Failed claim effect) = slice_set flags (leaf_of claim) true
+next_flags leaf_of flags other = flags
