@@ -4,4 +4,5 @@ pub mod Meaning
 pub mod Leaves
 pub mod Sequence
 pub mod Steps
+pub mod Tidy
 pub mod Todo

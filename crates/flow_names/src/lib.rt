@@ -10,6 +10,7 @@ mod read;
 mod refusal;
 mod scout;
 mod sequence;
+mod tidy;
 mod todo;
 mod verb;
 
@@ -17,6 +18,7 @@ pub use command::{ClaimRef, Command, StepRef, TaskRef};
 pub use means::{claim_meant, leaf_of_step, leaf_of_task, meaning};
 pub use read::read_command;
 pub use refusal::{CommandRefusal, NameRefusal};
-pub use scout::steps_to_take;
+pub use scout::{steps_to_take, waits_for_step};
+pub use tidy::tidy_steps;
 pub use todo::{OutTask, State, Todo, todo_of};
 pub use verb::Verb;

@@ -1,5 +1,5 @@
 //! The steps that a task waits for, found by asking a scout.
-ghost use Rattle.std.specs.Prelude.{◌≡◌, ◌↔◌, IsTrue, IfOk, MatchOption};
+ghost use Rattle.std.specs.Prelude.{◌≡◌, ◌↔◌, ℕ, IsTrue, IfOk, MatchOption};
 ghost use Rattle.flow_core.specs.Answers.{IsLeast};
 ghost use Rattle.flow_names.specs.Meaning.{NoneHas};
 ghost use Rattle.flow_names.specs.Steps.{IsStepBefore, LeadTo, Does};
@@ -39,7 +39,7 @@ pub fn steps_to_take<R: Asked>(
 }
 
 /// Asks for the step, and tells whether it was done.
-fn does<R: Asked>(scout: &mut R, step: u32, by: u32) -> bool
+pub(crate) fn does<R: Asked>(scout: &mut R, step: u32, by: u32) -> bool
     requires { R.can_be_asked scout.old }
     ensures does { Does R.run R.answers scout.old by step result scout.new }
     ensures lasts { R.can_be_asked scout.new }
@@ -50,6 +50,13 @@ fn does<R: Asked>(scout: &mut R, step: u32, by: u32) -> bool
     }
     let _ = scout.answer(Ask::Do(step), by);
     scout.core().history().len() > entries
+}
+
+/// Whether some step before the leaf may be done now. Whether the steps lead to the leaf is found out by a scout.
+pub fn waits_for_step(core: &Core, leaf: u32) -> bool
+    ensures { IsTrue result ↔ ((step : ℕ) × IsStepBefore core.now leaf step) }
+{
+    least_step_before(core, leaf).is_some()
 }
 
 /// The least step before the leaf that may be done now.
