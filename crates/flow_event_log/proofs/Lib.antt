@@ -1,0 +1,5 @@
+pub mod BucketLemmas
+pub mod EntryLemmas
+pub mod GroupLemmas
+pub mod ReachedLemmas
+pub mod RowLemmas

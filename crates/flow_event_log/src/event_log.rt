@@ -1,0 +1,156 @@
+ghost use Rattle.std.specs.Prelude.{◌≡◌, length, Some, IfOk, OnOk, OnErr, slice_get};
+ghost use Rattle.flow_event_log.specs.Numbers.{IsNumberedIn};
+ghost use Rattle.flow_event_log.specs.Rows.{AreNumbered};
+
+use crate::names::Names;
+use std::alloc::{AllocError, Global};
+
+/// What was done in a case: numbers of the log's cases and activities, and the line of the file, from 1.
+#[derive(Clone, Copy)]
+pub struct Event {
+    pub case: u32,
+    pub activity: u32,
+    pub line: u32,
+}
+
+/// The events of a log, in the order in which they happened.
+#[derive(Drop)]
+pub struct EventLog {
+    cases: Names,
+    activities: Names,
+    events: Vec<Event>,
+    ghost numbered: { AreNumbered (length cases) (length activities) events.items },
+}
+
+/// How many buckets there are for the names of cases, and for those of activities.
+const CASE_BUCKETS: usize = 1_048_576;
+
+const ACTIVITY_BUCKETS: usize = 4096;
+
+/// The number of a case, which it is given now if it did not come before. Mostly it is that of the last event.
+fn case_number(names: &mut Names, last: Option<&Event>, name: &[u8]) -> Result<u32, AllocError>
+    ensures number { IfOk result (λ number. slice_get names.new number ≡ Some name.now) }
+    ensures names { OnOk result (IsNumberedIn names.old name.now names.new) }
+    ensures err { OnErr result (names.new ≡ names.old) }
+{
+    if let Some(last) = last {
+        if let Some(text) = names.get(last.case as usize) {
+            if text == name {
+                return Ok(last.case);
+            }
+        }
+    }
+    names.number_of(name)
+}
+
+impl EventLog {
+    ghost use Rattle.std.specs.Prelude.{◌≡◌, ◌∷◌, ◌++◌, [], OnOk, IfOk, Some, slice_get};
+    ghost use Rattle.flow_event_log.specs.Logs.{cases_in, activities_in, events_in, rows_in};
+
+    /// A log of no event.
+    pub fn new(alloc: Global) -> Result<EventLog, AllocError>
+        ensures { IfOk result (λ log. rows_in log ≡ []) }
+    {
+        Ok(EventLog {
+            cases: Names::new(alloc, CASE_BUCKETS)?,
+            activities: Names::new(alloc, ACTIVITY_BUCKETS)?,
+            events: Vec::new(alloc),
+        })
+    }
+
+    /// The names of the cases, in the order in which they came.
+    pub fn cases(&self) -> &Names
+        ensures { result.now ≡ cases_in self.now }
+    {
+        &self.cases
+    }
+
+    /// The names of the activities, in the order in which they came.
+    pub fn activities(&self) -> &Names
+        ensures { result.now ≡ activities_in self.now }
+    {
+        &self.activities
+    }
+
+    /// How many events there are.
+    pub fn len(&self) -> usize
+        ensures { result ≡ length (rows_in self.now) }
+    {
+        self.events.len()
+    }
+
+    /// Whether there is no event.
+    pub fn is_empty(&self) -> bool {
+        self.events.is_empty()
+    }
+
+    /// The events in the order in which they happened.
+    pub fn events(&self) -> &[Event]
+        ensures events { result.now ≡ events_in self.now }
+        ensures numbered { AreNumbered (length (cases_in self.now)) (length (activities_in self.now)) result.now }
+    {
+        self.events.as_slice()
+    }
+
+    /// Notes one more event, and gives the number of its case.
+    pub fn note(&mut self, case: &[u8], activity: &[u8], line: u32) -> Result<u32, AllocError>
+        ensures rows { OnOk result (rows_in self.new ≡ rows_in self.old ++ (case.now, activity.now) ∷ []) }
+        ensures case { IfOk result (λ number. slice_get (cases_in self.new) number ≡ Some case.now) }
+    {
+        let case = case_number(&mut self.cases, self.events.last(), case)?;
+        let activity = self.activities.number_of(activity)?;
+        self.events.push(Event {
+            case,
+            activity,
+            line,
+        })?;
+        Ok(case)
+    }
+
+    /// Puts the events in this order of their places.
+    pub(crate) fn put_in_order(&mut self, places: &[u32]) -> Result<(), AllocError> {
+        let alloc = *self.events.allocator();
+        let events = events_at(
+            alloc,
+            self.events.as_slice(),
+            places,
+            self.cases.len(),
+            self.activities.len(),
+        )?;
+        self.events = events;
+        Ok(())
+    }
+}
+
+/// The events at these places. A place at which there is none counts for nothing.
+fn events_at(
+    alloc: Global,
+    events: &[Event],
+    places: &[u32],
+    cases: usize,
+    activities: usize,
+) -> Result<Vec<Event>, AllocError>
+    requires { AreNumbered cases activities events.now }
+    ensures { IfOk result (λ found. AreNumbered cases activities found.items) }
+{
+    let mut found = Vec::with_capacity(alloc, places.len())?;
+    for place in places {
+        if let Some(event) = events.get(*place as usize) {
+            found.push(*event)?;
+        }
+    }
+    Ok(found)
+}
+
+/// The places of times from the earliest on. Those of one time stay in their order.
+pub(crate) fn places_by_time(alloc: Global, times: &[u64]) -> Result<Vec<u32>, AllocError> {
+    let mut order = Vec::with_capacity(alloc, times.len())?;
+    for place in 0..times.len() {
+        let Ok(number) = u32::try_from(place) else {
+            return Err(AllocError);
+        };
+        order.push(number)?;
+    }
+    order.sort_by_key(|place| times.get(*place as usize).copied().unwrap_or(0))?;
+    Ok(order)
+}
