@@ -6,7 +6,7 @@ use Rattle.flow_core.specs.Run.{Run, schema, now, IsUncommitted}
 use Rattle.flow_core.specs.Answers.{IsOver}
 use Rattle.flow_core.specs.Next.{CanStep, CanAct}
 use Rattle.flow_reason.specs.declared.reason.Reason.{Reason}
-use Rattle.flow_reason.specs.declared.reason.Reason.TheVariants.{NoLeaf, Free, Over, Done, Out, False, Waits, WaitsByConstraints, Other}
+use Rattle.flow_reason.specs.declared.reason.Reason.TheVariants.{NoLeaf, Free, Over, Done, Out, False, OtherSide, Waits, WaitsByConstraints, Other}
 use Rattle.flow_reason.specs.DoneBy.{IsDoneBy}
 use Rattle.flow_reason.specs.Claimed.{IsOutBy}
 use Rattle.flow_reason.specs.Facts.{IsFalseNow}
@@ -37,6 +37,7 @@ IsReason r leaf Free = (leaf < length (schema r).labels) × CanAct r leaf
 IsReason r leaf (Done entry) = IsBlocked r leaf × IsDoneBy (schema r) r.history leaf entry
 IsReason r leaf (Out claim entry user) = IsBlocked r leaf × ¬ (leaf ∈ (now r).journal) × IsOutBy r leaf claim entry user
 IsReason r leaf (False fact wanted leaves) = IsIdle r leaf × IsFalseNow r leaf fact wanted leaves.items
+IsReason r leaf (OtherSide other) = IsHeld r leaf × waiting.IsOtherSide r leaf other
 IsReason r leaf (Waits leaves) = IsHeld r leaf × waiting.WaitsByGoal r leaf leaves.items
 IsReason r leaf (WaitsByConstraints constraints undecided) =
     IsHeld r leaf × waiting.WaitsByConstraints r leaf constraints.items undecided.items

@@ -1,5 +1,5 @@
 -- Leaves that the goal, or the constraints, keep from coming next.
-use Rattle.std.specs.Prelude.{◌<◌, ℕ, List, [], ◌∷◌, ◌++◌, length}
+use Rattle.std.specs.Prelude.{◌<◌, ◌↔◌, ℕ, Bool, false, IsTrue, List, [], ◌∷◌, ◌++◌, length, slice_index_or}
 use Rattle.flow_model.specs.Lists.{◌∈◌, Each, Begins, StandsBefore}
 use Rattle.flow_model.specs.Trace.{Trace}
 use Rattle.flow_conflict.specs.Conflict.{IsConflict, IsLeast}
@@ -18,6 +18,15 @@ with_next r leaf = (now r).journal ++ leaf ∷ []
 abbrev pub IsBefore : Run → ℕ → ℕ → Type 0
 IsBefore r leaf other =
     ¬ (other ∈ (now r).journal) × ((t : List ℕ) → Trace (schema r).goal t → Begins t (now r).journal → leaf ∈ t → StandsBefore other leaf t)
+
+-- the other leaf is done, and no trace of the goal has both
+pub record IsOtherSide (r : Run) (leaf other : ℕ) : Type 0 where
+  pub is_done : other ∈ (now r).journal
+  pub apart : (t : List ℕ) → Trace (schema r).goal t → leaf ∈ t → ¬ (other ∈ t)
+
+-- of each leaf of the goal, whether it is done
+abbrev pub AreFlags : Run → List Bool → Type 0
+AreFlags r flags = (n : ℕ) → n < length (schema r).labels → IsTrue (slice_index_or flags n false) ↔ (n ∈ (now r).journal)
 
 -- the goal alone does not let it come next; those leaves come first
 pub record WaitsByGoal (r : Run) (leaf : ℕ) (leaves : List ℕ) : Type 0 where

@@ -1,5 +1,6 @@
 ghost use Rattle.std.specs.Prelude.{◌≡◌, ◌<◌, ◌↔◌, ℕ, true, false, not, IsTrue, IfOk, Some, length, slice_get};
 ghost use Rattle.flow_model.specs.Lists.{◌∈◌};
+ghost use Rattle.flow_model.specs.Process.{IsNumbered};
 ghost use Rattle.flow_model.specs.Verdict.{AreJust};
 ghost use Rattle.flow_core.specs.Run.{schema, now};
 ghost use Rattle.flow_reason.specs.Facts.{changes, IsLeftTo};
@@ -28,7 +29,8 @@ fn is_done(core: &Core, leaf: u32) -> bool
 
 /// How many leaves the goal has.
 pub(crate) fn leaves(core: &Core) -> u32
-    ensures { result ≡ length (schema core.now).labels }
+    ensures count { result ≡ length (schema core.now).labels }
+    ensures numbered { IsNumbered (schema core.now).goal result }
 {
     core.workflow().tree().leaves()
 }

@@ -2,12 +2,14 @@ ghost use Rattle.std.specs.Prelude.{◌≡◌, ◌↔◌, [], IsTrue, IfOk, IfSo
 ghost use Rattle.flow_model.specs.Run.{CanDoAside};
 ghost use Rattle.flow_core.specs.Run.{schema, now};
 ghost use Rattle.flow_reason.specs.Reasons.{IsBlocked, IsIdle, IsHeld, IsReason};
-ghost use Rattle.flow_reason.specs.Waiting.{IsNotNext};
+ghost use Rattle.flow_reason.specs.Waiting.{IsBefore, IsNotNext};
+ghost use Rattle.flow_model.specs.Lists.{Each};
 
 use crate::claimed::{Out, claim_out_on};
 use crate::done_by::entry_that_did;
 use crate::facts::{label_at, leaves, left_to};
 use crate::reason::Reason;
+use crate::sides::{chosen_against, leaves_before};
 use flow_core::Core;
 use flow_model::Label;
 use flow_why::{Conflict, why_not};
@@ -79,10 +81,14 @@ fn why_held(alloc: Global, core: &Core, leaf: u32) -> Result<Reason, AllocError>
     requires { IsHeld core.now leaf }
     ensures { IfOk result (IsReason core.now leaf) }
 {
-    match why_not_next(alloc, core, leaf)? {
-        Some(conflict) => Ok(why_conflict(alloc, core, leaf, conflict)),
-        None => Ok(Reason::Other),
+    if let Some(other) = chosen_against(alloc, core, leaf)? {
+        return Ok(Reason::OtherSide { leaf: other });
     }
+    let Some(conflict) = why_not_next(alloc, core, leaf)? else {
+        return Ok(Reason::Other);
+    };
+    let before = leaves_before(alloc, core, leaf)?;
+    Ok(why_conflict(core, leaf, conflict, before))
 }
 
 /// The constraints that do not let the leaf come next, whatever claims are out and whatever was given up: none where the goal does not.
@@ -101,10 +107,11 @@ fn is_none(list: &[u32]) -> bool
     list.is_empty()
 }
 
-/// What such constraints come to.
-fn why_conflict(alloc: Global, core: &Core, leaf: u32, conflict: Conflict) -> Reason
+/// What such constraints come to, where these leaves stand before the leaf.
+fn why_conflict(core: &Core, leaf: u32, conflict: Conflict, leaves: Vec<u32>) -> Reason
     requires held { IsHeld core.now leaf }
     requires conflict { IsNotNext core.now leaf conflict.members.items conflict.undecided.items }
+    requires before { Each (IsBefore core.now leaf) leaves.items }
     ensures { IsReason core.now leaf result }
 {
     let Conflict {
@@ -112,9 +119,7 @@ fn why_conflict(alloc: Global, core: &Core, leaf: u32, conflict: Conflict) -> Re
         undecided,
     } = conflict;
     if is_none(&constraints) {
-        Reason::Waits {
-            leaves: Vec::new(alloc),
-        }
+        Reason::Waits { leaves }
     } else {
         Reason::WaitsByConstraints {
             constraints,

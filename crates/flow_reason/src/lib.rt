@@ -6,6 +6,7 @@ mod done_by;
 mod facts;
 mod leaf;
 mod reason;
+mod sides;
 mod words;
 
 pub use leaf::why_leaf;

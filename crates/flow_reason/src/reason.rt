@@ -23,6 +23,10 @@ pub enum Reason {
         wanted: bool,
         leaves: Vec<u32>,
     },
+    /// It is on the other side of a choice than this leaf, which is done: no trace of the goal has both.
+    OtherSide {
+        leaf: u32,
+    },
     /// The goal alone does not let it come next: in each trace of the goal that goes on from the journal and has it, these leaves, which
     /// are not done, stand before it. Others may, too.
     Waits {
@@ -33,6 +37,6 @@ pub enum Reason {
         constraints: Vec<u32>,
         undecided: Vec<u32>,
     },
-    /// Something else, as a claim that is out or a leaf that was given up: of this no more is told.
+    /// Something else, as claims that are out, or a leaf that was given up: of this no more is told.
     Other,
 }

@@ -148,6 +148,11 @@ impl Reason {
                 wanted,
                 leaves,
             } => push_false(text, workflow, *fact, *wanted, leaves),
+            Reason::OtherSide { leaf: other } => {
+                push_words(text, " is on the other side of a choice than ")?;
+                push_leaf(text, workflow, *other)?;
+                push_words(text, ", which is done")
+            }
             Reason::Waits { leaves } => {
                 push_words(text, " may not come next, by the goal")?;
                 if leaves.is_empty() {

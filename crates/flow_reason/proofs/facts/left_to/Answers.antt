@@ -22,7 +22,7 @@ pub returns : goal.returns
 returns c =
     let r = c.args.core.now in
     let P = IsLeftTo r c.args.fact c.args.wanted in
-    let count = c.leaves-leaf-end.ensures in
+    let count = c.leaves-leaf-end.ensures.count in
     let past = c.loop-leaf-test.false in
     all_found P c.loop-leaf.leaf c.loop-leaf.left.items c.loop-leaf.invariant
     (λ n has. let below : n < length (schema r).labels = labelled_within (schema r).labels n _ has.0 in omega arith)

@@ -1,8 +1,7 @@
 use Rattle.std.proofs.Common.{◌≡◌, ◌<◌, ℕ, List, [], ◌∷◌, length, refl, sym, subst, ◌∙◌, true≢false, arith}
-use Rattle.flow_model.specs.Lists.{Each}
 use Rattle.flow_why.specs.Constraints.{IsMet}
 use Rattle.flow_core.specs.Run.{schema}
-use Rattle.flow_reason.specs.Waiting.{with_next, IsBefore}
+use Rattle.flow_reason.specs.Waiting.{with_next}
 use Rattle.flow_reason.proofs.leaf.why_conflict.Goals as goal
 
 pub returns-then-is_none : goal.returns-then-is_none
@@ -13,7 +12,7 @@ returns-then-is_none c =
       c.requires.held,
       record {
         not_next = λ met. subst (λ (ms : List ℕ). ¬ (IsMet (schema r) (with_next r leaf) ms)) nil c.requires.conflict.conflict.unmet (met.0, met.1, met.2, tt);
-        before = subst (Each (IsBefore r leaf)) (sym c.new.ensures.items) tt;
+        before = c.requires.before;
       },
     )
 
