@@ -1,0 +1,3 @@
+pub mod Case
+pub mod Fits
+pub mod Search
