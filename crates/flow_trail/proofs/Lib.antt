@@ -1,0 +1,11 @@
+pub mod MomentLemmas
+pub mod WholeLemmas
+pub mod AppendCalls
+pub mod SpellingLemmas
+pub mod PickLemmas
+pub mod ReadLemmas
+pub mod TellLemmas
+pub mod FillLemmas
+pub mod CloseLemmas
+pub mod GuessLemmas
+pub mod OpenLemmas

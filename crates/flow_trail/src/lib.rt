@@ -1,0 +1,23 @@
+//! The trail of a case: who made each entry of its history and when, a line an entry, each sealed by the one before it.
+#![tactic(auto)]
+
+mod append;
+mod guess;
+mod line;
+mod open;
+mod pieces;
+mod print;
+mod read;
+mod read_all;
+mod refusal;
+mod seal;
+mod spelling;
+mod tell;
+mod trail;
+
+pub use line::{Telling, TrailEnd, TrailLine, Undoing};
+pub use open::UnopenedTrail;
+pub use read::{ReadTrail, read_trail};
+pub use refusal::{OpenRefusal, ReadRefusal, TellRefusal};
+pub use seal::first_seal;
+pub use trail::{MOST_BYTES, Trail};
