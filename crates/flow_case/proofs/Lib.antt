@@ -3,3 +3,9 @@ pub mod Following
 pub mod Governed
 pub mod Growth
 pub mod SingleLemmas
+pub mod TokenSteps
+pub mod SplitSteps
+pub mod NameSteps
+pub mod MarkSteps
+pub mod MemberLemmas
+pub mod CaseLemmas

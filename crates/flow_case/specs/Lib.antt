@@ -5,3 +5,9 @@ pub mod Ask
 pub mod CaseRun
 pub mod Invariant
 pub mod Single
+pub mod Reading
+pub mod Split
+pub mod Members
+pub mod Givens
+pub mod RulesOf
+pub mod CasePolicy

@@ -1,5 +1,5 @@
 -- The rules of a case besides duties: which events are final, who may step back, who may end the run.
-use Rattle.std.specs.Prelude.{◌≡◌, ℕ, Bool, true, List, ◌∷◌, ◌++◌, drop, Some, slice_get}
+use Rattle.std.specs.Prelude.{◌≡◌, ℕ, Bool, false, IsTrue, List, ◌∷◌, ◌++◌, drop, Some, get_or}
 use Rattle.std.proofs.Common.{refl}
 use Rattle.std.specs.Coded.{Coded, code_by, coded×, coded_bool, coded_list}
 use Rattle.flow_model.specs.declared.history.Entry.{Entry}
@@ -23,7 +23,7 @@ rules_code = code_by (List Bool × (List Bool × List Bool)) (coded× (coded_lis
 
 -- the number is marked
 abbrev pub IsMarked : List Bool → ℕ → Type 0
-IsMarked marks n = slice_get marks n ≡ Some true
+IsMarked marks n = IsTrue (get_or marks n false)
 
 -- the leaf is a final event's
 abbrev pub IsFinalLeaf : Schema → Rules → ℕ → Type 0
