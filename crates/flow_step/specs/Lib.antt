@@ -1,0 +1,7 @@
+pub mod Records
+pub mod Following
+pub mod Given
+pub mod Texts
+pub mod Step
+pub mod Stored
+pub mod Json
