@@ -1,0 +1,353 @@
+#!/usr/bin/env python3
+"""The library for C and Python beside the program.
+
+Usage: bench/library.py [PART ..] [--calls COUNT] [--seed SEED]     PART: rows, damaged, walks, threads, times; without one all
+
+rows      every row of the gate (crates/test_cases/data) of a mode that the library has, through C and through Python: the bytes and the status
+          that the row wants, which are the program's.
+damaged   calls of both kinds with texts, policies, histories and lines that are damaged at random, and rooms of every size, from C, also under
+          -fsanitize=address: each ends by a status, writes the whole answer or none of it, and touches no byte beside.
+walks     cases that are stepped at random, good lines among bad ones, each record stored as it comes: no history is ever refused, each
+          journal is an execution or the front of one by `trace`, and the whole is what `drive` and `duty` report of the same lines.
+threads   the same calls by four threads at once, from C and from Python.
+times     the processor's microseconds of a step of the order desk, with 0 to 60 entries, from C and from Python.
+
+--calls sets how many damaged calls are made (20,000; as many again under the sanitizer, a tenth of it). Needs ./prove flow_c and gcc. The
+script ends with 1 where something is not as it must be.
+"""
+import argparse
+import json
+import pathlib
+import random
+import re
+import struct
+import subprocess
+import sys
+import tempfile
+import time
+from concurrent.futures import ThreadPoolExecutor
+
+from measuring import TOP
+
+sys.path.insert(0, str(TOP / "bindings/python"))
+from flow import CallRefused, Case, StepRefused, Workflow  # noqa: E402
+from flow.library import Mode, Status, answer, step  # noqa: E402
+
+MADE = TOP / "crates/flow_c/out"
+MODES = {mode.name.lower(): mode for mode in Mode}
+ROOM = 2_000_000
+WRONG = []
+SHOP = "event pack, card, bill; goal pack | (card + bill); constraint precedes pack bill;\n"
+FOUR_EYES = "event a, b, c; goal a * (b | c);\n"
+POLICY = "role clerk = ann, bob; role lead = cid, ann; allow clerk a, b; allow lead c; separate a b; bind a c;\n"
+
+
+def wrong(what):
+    WRONG.append(what)
+    print("WRONG", what[:600])
+
+
+# --- calls from C
+
+def built(folder, *flags):
+    """The harness, linked with the archive."""
+    made = f"{folder}/library{len(flags)}"
+    words = ["gcc", "-g", "-O1", "-Wall", "-Wextra", *flags, f"-I{TOP}/include", "-o", made, TOP / "bench/library.c", MADE / "libflow.a", "-pthread"]
+    subprocess.run(words, check=True)
+    return made
+
+
+def packed(which, number, steps, parts, room):
+    parts = [*parts, b"", b"", b""][:4]
+    return struct.pack("8I", which, number, steps, *map(len, parts), room) + b"".join(parts)
+
+
+def made_by(harness, calls, *words):
+    """What came of the calls: status, length, microseconds and the answer of each."""
+    ran = subprocess.run([harness, *map(str, words)], input=b"".join(packed(*call) for call in calls), capture_output=True, check=False)
+    if ran.returncode or ran.stderr:
+        wrong(f"{pathlib.Path(harness).name} ends with {ran.returncode}: {ran.stderr.decode(errors='replace')[-2000:]}")
+    came, place = [], 0
+    while place < len(ran.stdout):
+        status, length, spent = struct.unpack_from("2If", ran.stdout, place)
+        place += 12
+        written = 0 if status == Status.NO_ROOM else length
+        came.append((status, length, spent, ran.stdout[place : place + written]))
+        place += written
+    if len(came) != len(calls):
+        wrong(f"{len(came)} of {len(calls)} calls came back")
+    return came
+
+
+# --- rows of the gate
+
+def bytes_of(lines):
+    """The bytes of a part of a row; None where it has names that fall together, which are not made here."""
+    text = bytearray()
+    for line in lines:
+        first, *pieces = line.split("\\")
+        text += first.encode()
+        for piece in pieces:
+            if not put_escape(text, piece):
+                return None
+        if not line.endswith("\\"):
+            text += b"\n"
+    return bytes(text)
+
+
+def put_escape(text, piece):
+    """What crates/test_cases/src/pieces.rt says of a piece behind a backslash."""
+    if not piece:
+        return True
+    kind, rest = piece[0], piece[1:]
+    if kind == "r":
+        text += b"\r" + rest.encode()
+    elif kind == "x":
+        digits, after = rest.split(" ", 1)
+        text += bytes([int(digits, 16)]) + after.encode()
+    elif kind == "*":
+        count, digits, after = rest.split(" ", 2)
+        text += bytes([int(digits, 16)]) * int(count) + after.encode()
+    elif kind == "{":
+        series, after = rest.split("}", 1)
+        numbers, between, member = series.split("`", 2)
+        low, high = map(int, numbers.split(".."))
+        one = [member.replace("#", "\0").replace("@", str(n + 1)).replace("~", "\n").replace("\0", str(n)) for n in range(low, high)]
+        text += between.replace("~", "\n").join(one).encode() + after.encode()
+    else:
+        return False
+    return True
+
+
+def rows():
+    """Rows of modes that the library has: name, mode, steps, input, status, output."""
+    for path in sorted((TOP / "crates/test_cases/data").glob("*.rows")):
+        for row in re.split(r"^=== ", path.read_text(), flags=re.M)[1:]:
+            name, words, ending, *lines = row.rstrip("\n").split("\n")
+            call = re.fullmatch(r"flow (\w+)(?: --steps (\d+))?", words)
+            if not call or call[1] not in MODES:
+                continue
+            parts = [[]]
+            for line in lines:
+                parts.append([]) if line == "---" else parts[-1].append(line)
+            given, wanted = bytes_of(parts[0]), bytes_of(parts[1])
+            if given is None or wanted is None or len(ending.split()) == 2:
+                continue
+            status = int(ending.split()[0])
+            # wrong words are told by the status alone: how the program is called is nothing to a library
+            yield f"{path.name}: {name}", MODES[call[1]], int(call[2] or 65536), given, status, wanted if status != Status.CALL else b""
+
+
+def try_rows(harness):
+    found = list(rows())
+    came = made_by(harness, [(0, mode, steps, [given], ROOM) for _, mode, steps, given, _, _ in found])
+    for (name, mode, steps, given, status, wanted), (c_status, _, _, c_text) in zip(found, came):
+        if (c_status, c_text) != (status, wanted):
+            wrong(f"{name}: from C {c_status} {c_text[-200:]}, not {status} {wanted[-200:]}")
+        try:
+            p_status, p_text = answer(mode, given, steps)
+        except CallRefused:
+            p_status, p_text = Status.CALL, b""
+        if (p_status, p_text) != (status, wanted):
+            wrong(f"{name}: from Python {p_status} {p_text[-200:]}")
+    by_mode = {mode.name.lower(): sum(it[1] is mode for it in found) for mode in Mode}
+    print(f"rows: {len(found)} ({', '.join(f'{count} {mode}' for mode, count in by_mode.items())})")
+
+
+# --- damaged calls
+
+def damaged(rng, text):
+    """Bytes with some damage, or none."""
+    text = bytearray(text)
+    for _ in range(rng.choice([0, 0, 1, 1, 2, 5])):
+        place = rng.randrange(len(text) + 1)
+        kind = rng.randrange(5)
+        if kind == 0:
+            text[place:place] = bytes([rng.randrange(256)])
+        elif kind == 1 and text:
+            del text[place : place + rng.choice([1, 1, 4, 16, 100])]
+        elif kind == 2 and place < len(text):
+            text[place] = rng.randrange(256)
+        elif kind == 3:
+            end = place + rng.choice([1, 4, 16, 64])
+            text[place:place] = text[place:end]
+        else:
+            del text[place:]
+    return bytes(text)
+
+
+def walked(workflow, rng, lines):
+    """A case that is stepped at random, and the lines that it was given with what was replied."""
+    case, said = Case(workflow), []
+    users = range(len(workflow.users) + 2)
+    for _ in range(lines):
+        by = rng.choice(users)
+        line = rng.choice([
+            lambda: f"take {rng.choice(case.enabled() or [0])}", lambda: f"take {rng.randrange(40)}", lambda: f"do {rng.choice(case.enabled() or [0])}",
+            lambda: f"done {rng.randrange(1, 9 + case.entries)}", lambda: f"done {rng.randrange(1, 4)}", lambda: f"fail {rng.randrange(1, 9)}",
+            lambda: "rewind", lambda: "commit", lambda: "next", lambda: "enabled", lambda: "journal", lambda: "facts",
+        ])()
+        try:
+            reply = case.give(line, by).reply
+        except StepRefused as refused:
+            reply = refused.reply
+        said.append((by, line, reply))
+    return case, said
+
+
+def texts():
+    """Workflows that are small and large enough, with and without a policy."""
+    desk = (TOP / "examples/order_desk.flow").read_text()
+    loan = (TOP / "examples/loan.flow").read_text()
+    office = (TOP / "examples/back_office.flow").read_text()
+    shift = (TOP / "examples/back_office.policy").read_text().replace("%%\n", "")
+    return [Workflow(SHOP), Workflow(FOUR_EYES, POLICY), Workflow(loan), Workflow(desk), Workflow(office, shift)]
+
+
+def damaged_calls(rng, count):
+    seeds = []
+    for workflow in texts():
+        for _ in range(6):
+            case, said = walked(workflow, rng, 30)
+            seeds.append((workflow, case.history, said))
+    sources = [given for _, _, _, given, _, _ in rows() if len(given) < 2000]
+    for _ in range(count):
+        room = rng.choice([0, 1, rng.randrange(200), rng.randrange(2000), 20_000])
+        if rng.random() < 0.3:
+            yield 0, rng.choice([0, 1, 2, 3, 4, 4, rng.randrange(9)]), rng.choice([65536, 1, 0, 9, 2_000_000]), [damaged(rng, rng.choice(sources))], room
+            continue
+        workflow, history, said = rng.choice(seeds)
+        by, line, _ = rng.choice(said)
+        parts = [workflow.text.encode(), workflow.policy.encode(), history, line.encode()]
+        for place in rng.sample(range(4), rng.choice([0, 1, 1, 2])):
+            parts[place] = damaged(rng, parts[place])
+        yield 1, by, 0, parts, room
+
+
+def try_damaged(harness, calls):
+    allowed = [{0, 1, 2, 3, 7, 9}, {0, 1, 3, 9, 10}]
+    counts = {}
+    for call, (status, length, _, text) in zip(calls, made_by(harness, calls)):
+        counts[status] = counts.get(status, 0) + 1
+        if status not in allowed[call[0]]:
+            wrong(f"status {status} of {call}")
+        if call[0] and status != Status.NO_ROOM:
+            try:
+                came = json.loads(text.decode("ascii"))
+            except ValueError as error:
+                wrong(f"{error}: {text}")
+                continue
+            if came["ok"] is not (status == Status.OK):
+                wrong(f"status {status} of {text}")
+    told = ", ".join(f"{Status(status).name.lower()} {count}" for status, count in sorted(counts.items()))
+    print(f"{pathlib.Path(harness).name}: {len(calls)} damaged calls: {told}")
+
+
+# --- walks
+
+def try_walks(rng, count):
+    steps = 0
+    for _ in range(count):
+        workflow = rng.choice(texts())
+        case, said = walked(workflow, rng, rng.choice([5, 20, 60]))
+        steps += len(said)
+        traced = workflow.trace(case.journal()).verdict
+        if traced not in ("execution", "prefix"):
+            wrong(f"a journal is {traced}: {said}")
+        if Case(workflow, case.history).journal() != case.journal():
+            wrong(f"another case: {said}")
+        session = "".join(f"as {workflow.users[by - 1]}\n{line}\n" for by, line, _ in said if 0 < by <= len(workflow.users)) if workflow.policy else \
+            "".join(f"{line}\n" for _, line, _ in said)
+        if workflow.policy and any(not 0 < by <= len(workflow.users) for by, _, _ in said):
+            continue
+        wanted = [line for line in workflow.drive(session).text.splitlines() if not line.startswith("as ")][: len(said)]
+        if wanted != [reply for _, _, reply in said]:
+            wrong(f"`drive` replies otherwise: {said} {wanted}")
+    print(f"walks: {count} cases, {steps} lines")
+
+
+# --- threads and times
+
+def order_desk(entries):
+    """A case of the order desk that has come so far, in which the first task failed six times."""
+    case = Case(texts()[3])
+    while case.entries < min(entries, 12):
+        case.fail(case.take(0).claim)
+    while case.entries < entries:
+        what, *number = case.next().split()
+        if what == "act":
+            try:
+                case.take(int(number[0]))
+            except StepRefused:
+                case.do(int(number[0]))
+        elif what == "wait":
+            case.done(int(number[0]))
+        else:
+            case.commit()
+            break
+    return case
+
+
+def try_threads(harness, rng):
+    calls = [(0, mode, steps, [given], ROOM) for _, mode, steps, given, _, _ in rows() if len(given) < 500][::20]
+    for workflow in texts():
+        case, said = walked(workflow, rng, 20)
+        calls += [(1, by, 0, [workflow.text.encode(), workflow.policy.encode(), case.history, line.encode()], 5000) for by, line, _ in said[:4]]
+    alone = made_by(harness, calls)
+    beside = made_by(harness, calls, 20, 4)
+    if [it[:2] + it[3:] for it in alone] != [it[:2] + it[3:] for it in beside]:
+        wrong("threads from C")
+    work = [call for call in calls if call[0]] * 4
+    with ThreadPoolExecutor(4) as pool:
+        came = list(pool.map(lambda call: step(*call[3][:3], call[1], call[3][3]), work))
+    if came != [step(*call[3][:3], call[1], call[3][3]) for call in work]:
+        wrong("threads from Python")
+    print(f"threads: {len(calls)} calls by four threads from C, {len(work)} from Python")
+
+
+def try_times(harness):
+    print("entries  us from C  us from Python")
+    for entries in (0, 20, 40, 60):
+        case = order_desk(entries)
+        words = [case.workflow.text.encode(), b"", case.history, f"take {(case.enabled() or [0])[0]}".encode()]
+        spent = min(made_by(harness, [(1, 0, 0, words, 5000)], 2000)[0][2] for _ in range(5))
+        python = min(timed(lambda: step(*words[:3], 0, words[3])) for _ in range(5))
+        print(f"{case.entries:7}  {spent:9.0f}  {python:14.0f}")
+        if case.entries >= 60 and spent > 300:
+            wrong("a step with 60 entries takes more than 0.3 ms")
+
+
+def timed(call, count=500):
+    begun = time.process_time()
+    for _ in range(count):
+        call()
+    return (time.process_time() - begun) * 1e6 / count
+
+
+def main():
+    parser = argparse.ArgumentParser(usage=__doc__)
+    parser.add_argument("parts", nargs="*", default=[])
+    parser.add_argument("--calls", type=int, default=20_000)
+    parser.add_argument("--walks", type=int, default=200)
+    parser.add_argument("--seed", type=int, default=1)
+    words = parser.parse_args()
+    parts = words.parts or ["rows", "damaged", "walks", "threads", "times"]
+    rng = random.Random(words.seed)
+    with tempfile.TemporaryDirectory() as folder:
+        plain = built(folder)
+        if "rows" in parts:
+            try_rows(plain)
+        if "damaged" in parts:
+            try_damaged(plain, list(damaged_calls(rng, words.calls)))
+            try_damaged(built(folder, "-fsanitize=address"), list(damaged_calls(rng, words.calls // 10)))
+        if "walks" in parts:
+            try_walks(rng, words.walks)
+        if "threads" in parts:
+            try_threads(plain, rng)
+        if "times" in parts:
+            try_times(plain)
+    sys.exit(1 if WRONG else 0)
+
+
+if __name__ == "__main__":
+    main()
