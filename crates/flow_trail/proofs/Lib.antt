@@ -9,3 +9,4 @@ pub mod FillLemmas
 pub mod CloseLemmas
 pub mod GuessLemmas
 pub mod OpenLemmas
+pub mod DueLemmas

@@ -6,3 +6,4 @@ pub mod Read
 pub mod Kept
 pub mod Held
 pub mod Opened
+pub mod Due

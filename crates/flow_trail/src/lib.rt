@@ -2,6 +2,9 @@
 #![tactic(auto)]
 
 mod append;
+mod checked;
+mod compare;
+mod due;
 mod guess;
 mod line;
 mod open;
@@ -15,9 +18,11 @@ mod spelling;
 mod tell;
 mod trail;
 
+pub use checked::{Verified, verify};
+pub use due::Due;
 pub use line::{Telling, TrailEnd, TrailLine, Undoing};
 pub use open::UnopenedTrail;
 pub use read::{ReadTrail, read_trail};
-pub use refusal::{OpenRefusal, ReadRefusal, TellRefusal};
+pub use refusal::{OpenRefusal, ReadRefusal, TellRefusal, VerifyRefusal};
 pub use seal::first_seal;
 pub use trail::{MOST_BYTES, Trail};

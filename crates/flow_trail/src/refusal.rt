@@ -112,3 +112,32 @@ impl From<ReadRefusal> for OpenRefusal {
         }
     }
 }
+
+/// Why a trail is not whole, or not that of a history. The causes are looked for in this order.
+#[derive(Clone, Copy, Debug, Error)]
+pub enum VerifyRefusal {
+    /// The first line, from 1, that is not spelt as it is printed, has not its seal, or may not stand there.
+    #[error("line {line} of the trail is no line of it: it is changed, or one before it is missing")]
+    BadLine { line: usize },
+    /// The first line, from 1, that tells another entry than the next of the history, or one behind its last, and is not the last line.
+    #[error("line {line} of the trail tells another entry than the history has there")]
+    Other { line: usize },
+    /// The first entry, from 1, that no line tells.
+    #[error("no line of the trail tells entry {entry}")]
+    Missing { entry: usize },
+    #[error("out of memory")]
+    NoMemory,
+}
+
+impl From<ReadRefusal> for VerifyRefusal {
+    ghost use Rattle.flow_trail.specs.Due.{of_read};
+
+    ghost from_gives = { λ refusal told. told ≡ of_read refusal };
+
+    fn from(refusal: ReadRefusal) -> VerifyRefusal {
+        match refusal {
+            ReadRefusal::BadLine { line } => VerifyRefusal::BadLine { line },
+            ReadRefusal::NoMemory => VerifyRefusal::NoMemory,
+        }
+    }
+}
