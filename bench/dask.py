@@ -3,10 +3,10 @@
 
 Usage: bench/dask.py [--cases COUNT] [--kinds COUNT] [--seed SEED]
 
-A log of a small workflow is made: COUNT cases (2,000) of KINDS sequences (500), some of which are cut short or have two events exchanged. It
-is checked in this process, and by 1, 2 and 4 workers, each a process that is reached by TCP on the loopback. Needs ./prove flow_c and
-dask.distributed for Python (python3-distributed). Figures tell something only on a machine that does nothing else. The script ends with 1
-where the counts differ.
+A log of a small workflow is made: COUNT cases (2,000) of KINDS sequences (500), some of which are cut short or have two events
+exchanged. It is checked in this process, and by 1, 2 and 4 workers, each a process that is reached by TCP on the loopback. Needs ./prove
+flow_c and dask.distributed for Python (python3-distributed). Figures tell something only on a machine that does nothing else. The script
+ends with 1 where the counts differ.
 """
 import argparse
 import pathlib

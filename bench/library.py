@@ -1,30 +1,35 @@
 #!/usr/bin/env python3
 """The library for C and Python beside the program.
 
-Usage: bench/library.py [PART ..] [--calls COUNT] [--seed SEED]     PART: rows, damaged, walks, threads, times; without one all
+Usage: bench/library.py [PART ..] [--calls COUNT] [--seed SEED]     PART: rows, damaged, walks, threads, examples, times; without one all
 
-rows      every row of the gate (crates/test_cases/data) of a mode that the library has, through C and through Python: the bytes and the status
-          that the row wants, which are the program's.
-damaged   calls of both kinds with texts, policies, histories and lines that are damaged at random, and rooms of every size, from C, also under
-          -fsanitize=address: each ends by a status, writes the whole answer or none of it, and touches no byte beside.
+rows      every row of the gate (crates/test_cases/data) of a mode that the library has, through C and through Python: the bytes and the
+          status that the row wants, which are the program's.
+damaged   calls of both kinds with texts, policies, histories and lines that are damaged at random, and rooms of every size, from C, also
+          under -fsanitize=address: each ends by a status, writes the whole answer or none of it, and touches no byte beside.
 walks     cases that are stepped at random, good lines among bad ones, each record stored as it comes: no history is ever refused, each
           journal is an execution or the front of one by `trace`, and the whole is what `drive` and `duty` report of the same lines.
 threads   the same calls by four threads at once, from C and from Python.
+examples  what the README for Python shows runs; examples/c/step.c drives a case as Python does; the tests of bindings/rust pass, where
+          cargo is.
 times     the processor's microseconds of a step of the order desk, with 0 to 60 entries, from C and from Python.
 
---calls sets how many damaged calls are made (20,000; as many again under the sanitizer, a tenth of it). Needs ./prove flow_c and gcc. The
+--calls sets how many damaged calls are made (20,000; a tenth as many under the sanitizer besides). Needs ./prove flow_c and gcc. The
 script ends with 1 where something is not as it must be.
 """
 import argparse
 import json
+import os
 import pathlib
 import random
 import re
+import shutil
 import struct
 import subprocess
 import sys
 import tempfile
 import time
+from collections import Counter
 from concurrent.futures import ThreadPoolExecutor
 
 from measuring import TOP
@@ -37,6 +42,8 @@ MADE = TOP / "crates/flow_c/out"
 MODES = {mode.name.lower(): mode for mode in Mode}
 ROOM = 2_000_000
 WRONG = []
+# the names of what the README shows, block after block
+README = {}
 SHOP = "event pack, card, bill; goal pack | (card + bill); constraint precedes pack bill;\n"
 FOUR_EYES = "event a, b, c; goal a * (b | c);\n"
 POLICY = "role clerk = ann, bob; role lead = cid, ann; allow clerk a, b; allow lead c; separate a b; bind a c;\n"
@@ -51,9 +58,9 @@ def wrong(what):
 
 def built(folder, *flags):
     """The harness, linked with the archive."""
-    made = f"{folder}/library{len(flags)}"
-    words = ["gcc", "-g", "-O1", "-Wall", "-Wextra", *flags, f"-I{TOP}/include", "-o", made, TOP / "bench/library.c", MADE / "libflow.a", "-pthread"]
-    subprocess.run(words, check=True)
+    made = f"{folder}/{'sanitized' if flags else 'plain'}"
+    compiler = ["gcc", "-g", "-O1", "-Wall", "-Wextra", *flags, f"-I{TOP}/include"]
+    subprocess.run([*compiler, "-o", made, TOP / "bench/library.c", MADE / "libflow.a", "-pthread"], check=True)
     return made
 
 
@@ -179,14 +186,12 @@ def damaged(rng, text):
 def walked(workflow, rng, lines):
     """A case that is stepped at random, and the lines that it was given with what was replied."""
     case, said = Case(workflow), []
-    users = range(len(workflow.users) + 2)
+    # users alone, or whoever calls besides
+    users = range(1, len(workflow.users) + 1) if workflow.policy and rng.random() < 0.7 else range(len(workflow.users) + 2)
     for _ in range(lines):
-        by = rng.choice(users)
-        line = rng.choice([
-            lambda: f"take {rng.choice(case.enabled() or [0])}", lambda: f"take {rng.randrange(40)}", lambda: f"do {rng.choice(case.enabled() or [0])}",
-            lambda: f"done {rng.randrange(1, 9 + case.entries)}", lambda: f"done {rng.randrange(1, 4)}", lambda: f"fail {rng.randrange(1, 9)}",
-            lambda: "rewind", lambda: "commit", lambda: "next", lambda: "enabled", lambda: "journal", lambda: "facts",
-        ])()
+        by, leaf, claim = rng.choice(users), rng.choice(case.enabled() or [0]), rng.randrange(1, 9 + case.entries)
+        tasks = [f"take {leaf}", f"do {leaf}", f"take {rng.randrange(40)}", f"done {claim}", f"done {rng.randrange(1, 4)}", f"fail {claim % 8}"]
+        line = rng.choice([*tasks, "rewind", "commit", "next", "enabled", "journal", "facts"])
         try:
             reply = case.give(line, by).reply
         except StepRefused as refused:
@@ -214,7 +219,8 @@ def damaged_calls(rng, count):
     for _ in range(count):
         room = rng.choice([0, 1, rng.randrange(200), rng.randrange(2000), 20_000])
         if rng.random() < 0.3:
-            yield 0, rng.choice([0, 1, 2, 3, 4, 4, rng.randrange(9)]), rng.choice([65536, 1, 0, 9, 2_000_000]), [damaged(rng, rng.choice(sources))], room
+            mode, steps = rng.choice([0, 1, 2, 3, 4, 4, rng.randrange(9)]), rng.choice([65536, 1, 0, 9, 2_000_000])
+            yield 0, mode, steps, [damaged(rng, rng.choice(sources))], room
             continue
         workflow, history, said = rng.choice(seeds)
         by, line, _ = rng.choice(said)
@@ -224,11 +230,20 @@ def damaged_calls(rng, count):
         yield 1, by, 0, parts, room
 
 
-def try_damaged(harness, calls):
+def try_damaged(harness, rng, count):
+    counts = Counter()
+    for done in range(0, count, 5000):
+        counts += damaged_batch(harness, list(damaged_calls(rng, min(5000, count - done))))
+    told = ", ".join(f"{Status(status).name.lower()} {number}" for status, number in sorted(counts.items()))
+    print(f"{pathlib.Path(harness).name}: {count} damaged calls: {told}")
+
+
+def damaged_batch(harness, calls):
+    """How many of the calls came to which status."""
     allowed = [{0, 1, 2, 3, 7, 9}, {0, 1, 3, 9, 10}]
-    counts = {}
-    for call, (status, length, _, text) in zip(calls, made_by(harness, calls)):
-        counts[status] = counts.get(status, 0) + 1
+    counts = Counter()
+    for call, (status, _, _, text) in zip(calls, made_by(harness, calls)):
+        counts[status] += 1
         if status not in allowed[call[0]]:
             wrong(f"status {status} of {call}")
         if call[0] and status != Status.NO_ROOM:
@@ -239,8 +254,7 @@ def try_damaged(harness, calls):
                 continue
             if came["ok"] is not (status == Status.OK):
                 wrong(f"status {status} of {text}")
-    told = ", ".join(f"{Status(status).name.lower()} {count}" for status, count in sorted(counts.items()))
-    print(f"{pathlib.Path(harness).name}: {len(calls)} damaged calls: {told}")
+    return counts
 
 
 # --- walks
@@ -256,10 +270,10 @@ def try_walks(rng, count):
             wrong(f"a journal is {traced}: {said}")
         if Case(workflow, case.history).journal() != case.journal():
             wrong(f"another case: {said}")
-        session = "".join(f"as {workflow.users[by - 1]}\n{line}\n" for by, line, _ in said if 0 < by <= len(workflow.users)) if workflow.policy else \
-            "".join(f"{line}\n" for _, line, _ in said)
         if workflow.policy and any(not 0 < by <= len(workflow.users) for by, _, _ in said):
             continue
+        calls = [f"as {workflow.users[by - 1]}\n" if workflow.policy else "" for by, _, _ in said]
+        session = "".join(f"{call}{line}\n" for call, (_, line, _) in zip(calls, said))
         wanted = [line for line in workflow.drive(session).text.splitlines() if not line.startswith("as ")][: len(said)]
         if wanted != [reply for _, _, reply in said]:
             wrong(f"`drive` replies otherwise: {said} {wanted}")
@@ -267,6 +281,39 @@ def try_walks(rng, count):
 
 
 # --- threads and times
+
+# --- examples
+
+def try_examples(folder):
+    for block in re.findall(r"^```python\n(.*?)^```", (TOP / "bindings/python/README.md").read_text(), flags=re.M | re.S):
+        try:
+            exec(block, README)  # pylint: disable=exec-used
+        except Exception as error:  # pylint: disable=broad-except
+            wrong(f"the README for Python: {type(error).__name__} {error}: {block}")
+    (pathlib.Path(folder) / "shop.flow").write_text(SHOP)
+    made = f"{folder}/step"
+    subprocess.run(["gcc", "-Wall", "-Wextra", f"-I{TOP}/include", "-o", made, TOP / "examples/c/step.c", MADE / "libflow.a"], check=True)
+    case = Case(Workflow(SHOP))
+    lines = ["take 0", "take 1", "fail 2", "take 2", "done 1", "take 2", "done 3", "done 3", "facts", "commit", "next"]
+    for line in lines:
+        ran = subprocess.run([made, f"{folder}/shop.flow", f"{folder}/history", "0", *line.split()], capture_output=True, check=False)
+        try:
+            wanted = (0, case.give(line).reply)
+        except StepRefused as refused:
+            wanted = (1, refused.reply)
+        if (ran.returncode, json.loads(ran.stdout)["reply"]) != wanted:
+            wrong(f"examples/c/step.c: {line}: {ran.stdout}, not {wanted}")
+    if (pathlib.Path(folder) / "history").read_bytes() != case.history:
+        wrong("examples/c/step.c: the history")
+    told = "no cargo is there"
+    if shutil.which("cargo"):
+        apart = {**os.environ, "CARGO_TARGET_DIR": f"{folder}/target"}
+        ran = subprocess.run(["cargo", "test", "--offline", "--quiet"], cwd=TOP / "bindings/rust", env=apart, capture_output=True, check=False)
+        told = "tests of Rust"
+        if ran.returncode:
+            wrong(f"bindings/rust: {ran.stdout.decode()[-800:]} {ran.stderr.decode()[-800:]}")
+    print(f"examples: the README for Python, {len(lines)} lines in C, {told}")
+
 
 def order_desk(entries):
     """A case of the order desk that has come so far, in which the first task failed six times."""
@@ -292,7 +339,8 @@ def try_threads(harness, rng):
     calls = [(0, mode, steps, [given], ROOM) for _, mode, steps, given, _, _ in rows() if len(given) < 500][::20]
     for workflow in texts():
         case, said = walked(workflow, rng, 20)
-        calls += [(1, by, 0, [workflow.text.encode(), workflow.policy.encode(), case.history, line.encode()], 5000) for by, line, _ in said[:4]]
+        texts_of = [workflow.text.encode(), workflow.policy.encode(), case.history]
+        calls += [(1, by, 0, [*texts_of, line.encode()], 5000) for by, line, _ in said[:4]]
     alone = made_by(harness, calls)
     beside = made_by(harness, calls, 20, 4)
     if [it[:2] + it[3:] for it in alone] != [it[:2] + it[3:] for it in beside]:
@@ -331,19 +379,21 @@ def main():
     parser.add_argument("--walks", type=int, default=200)
     parser.add_argument("--seed", type=int, default=1)
     words = parser.parse_args()
-    parts = words.parts or ["rows", "damaged", "walks", "threads", "times"]
+    parts = words.parts or ["rows", "damaged", "walks", "threads", "examples", "times"]
     rng = random.Random(words.seed)
     with tempfile.TemporaryDirectory() as folder:
         plain = built(folder)
         if "rows" in parts:
             try_rows(plain)
         if "damaged" in parts:
-            try_damaged(plain, list(damaged_calls(rng, words.calls)))
-            try_damaged(built(folder, "-fsanitize=address"), list(damaged_calls(rng, words.calls // 10)))
+            try_damaged(plain, rng, words.calls)
+            try_damaged(built(folder, "-fsanitize=address"), rng, words.calls // 10)
         if "walks" in parts:
             try_walks(rng, words.walks)
         if "threads" in parts:
             try_threads(plain, rng)
+        if "examples" in parts:
+            try_examples(folder)
         if "times" in parts:
             try_times(plain)
     sys.exit(1 if WRONG else 0)

@@ -3,17 +3,18 @@
 
 Usage: bench/postgres.py [PART ..] [--cases COUNT] [--workers COUNT] [--seed SEED]     PART: crash, times; without one both
 
-A real server of the machine's packages (postgresql) runs in a folder of its own, at a port of the loopback, and is stopped at the end. Needs
-./prove flow_c and psycopg 3 for Python (python3-psycopg).
+A real server of the machine's packages (postgresql) runs in a folder of its own, at a port of the loopback, and is stopped at the end.
+Needs ./prove flow_c and psycopg 3 for Python (python3-psycopg).
 
 crash    cases of the order desk are driven to their commit by workers, each a process. Again and again one is killed (SIGKILL) and begun
-         anew; half way the server is stopped at once (immediate) and started again. Then: every case is committed, its history is legal, its
-         journal an execution, its tasks those of the history; every step that a worker had told of is stored; no task was out under two
+         anew; half way the server is stopped at once (immediate) and started again. Then: every case is committed, its history is legal,
+         its journal an execution, its tasks those of the history; every step that a worker had told of is stored; no task was out under two
          claims at once.
-times    steps a second of 1, 2, 4 and 8 workers, and of the same transactions with answers that were noted before in place of the library's.
-         These figures tell something only on a machine that does nothing else.
+times    steps a second of 1, 2, 4 and 8 workers, and of the same transactions with answers that were noted before in place of the
+         library's. These figures tell something only on a machine that does nothing else.
 
---cases: 200 where it is not given (crash), a fourth of it for each row of times. The script ends with 1 where something is not as it must be.
+--cases: 200 where it is not given (crash), a fourth of it for each row of times. The script ends with 1 where something is not as it
+must be.
 """
 import argparse
 import glob

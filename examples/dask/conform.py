@@ -3,9 +3,9 @@
 
 Usage: conform.py WORKFLOW LOG [--scheduler ADDRESS | --workers COUNT] [--parts COUNT]
 
-The log has a line `CASE,EVENT` for each event, those of a case in order. It is cut into parts by case. A worker groups a part by case, checks
-each sequence of events that stands in it once, by the library in its own process, and gives back how many cases came to what; the parts' counts
-are added. Each event of the workflow has one leaf, and it has no tests of facts.
+The log has a line `CASE,EVENT` for each event, those of a case in order. It is cut into parts by case. A worker groups a part by case,
+checks each sequence of events that stands in it once, by the library in its own process, and gives back how many cases came to what; the
+parts' counts are added. Each event of the workflow has one leaf, and it has no tests of facts.
 
 Needs dask.distributed (python3-distributed) and the package flow (bindings/python), on each worker too.
 """

@@ -1,13 +1,14 @@
 #!/usr/bin/env python3
 """Cases of flow in PostgreSQL: each step is one transaction.
 
-Usage: office.py init | new WORKFLOW [POLICY] | step CASE BY LINE.. | work WHO | audit [CASE]     the database is named by PGHOST, PGPORT, PGDATABASE ..
+Usage: office.py init | new WORKFLOW [POLICY] | step CASE BY LINE.. | work WHO | audit [CASE]     the database is named by PGHOST,
+PGPORT, PGDATABASE ..
 
 init    makes the tables (schema.sql)
 new     begins a case of the workflow in that file, and prints its number
 step    gives a line to a case: `step 7 2 take 0`
-work    is a worker: takes open tasks, one after another, performs them (here: does nothing) and tells that they are done, until none is left.
-        A worker of the same number that was killed is gone on with: what it had taken is performed first.
+work    is a worker: takes open tasks, one after another, performs them (here: does nothing) and tells that they are done, until none is
+        left. A worker of the same number that was killed is gone on with: what it had taken is performed first.
 audit   reads each case back: its history is legal, its journal an execution or the front of one, and its tasks are those of the history
 
 Needs psycopg 3 (python3-psycopg), and the package flow (bindings/python).
@@ -121,7 +122,8 @@ def end_if_over(db, case, by, engine):
 
 
 def begin_task(db, who, engine=flow_step):
-    """Takes an open task of a case that nobody steps just now: its case, leaf, label and claim. None where there is none; no leaf where somebody
+    """Takes an open task of a case that nobody steps just now: its case, leaf, label and claim. None where there is none; no leaf where
+somebody
     took the last one of the case just before. What is no event is done at once."""
     with db.transaction():
         found = db.execute(

@@ -10,8 +10,8 @@
     >>> case.fail(1).reply
     'failed 1 switched'
 
-Nothing is kept in the library. A `Case` has its history as bytes: store `case.history`, or what each step adds to it, wherever you like, and
-make the case again by `Case(shop, history=stored)`.
+Nothing is kept in the library. A `Case` has its history as bytes: store `case.history`, or what each step adds to it, wherever you like,
+and make the case again by `Case(shop, history=stored)`.
 """
 from .case import Case, Step
 from .library import LibraryMissing, Status

@@ -37,8 +37,8 @@ class Step:
 class Case:
     """A run of a workflow, with its history as bytes.
 
-    `keep` is called with the record of each entry that is made, before the step returns, and should store it. Where it raises, the case stays
-    as it was. `by` is who calls: a number, or under a policy the name of a user."""
+    `keep` is called with the record of each entry that is made, before the step returns, and should store it. Where it raises, the case
+    stays as it was. `by` is who calls: a number, or under a policy the name of a user."""
 
     def __init__(self, workflow: Workflow, history: bytes = b"", keep: Callable[[bytes], None] | None = None):
         self.workflow = workflow

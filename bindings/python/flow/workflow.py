@@ -20,7 +20,7 @@ class Checked:
 
 @dataclass(frozen=True)
 class Property:
-    """What `verify` says: whether the property holds (or the constraint is redundant), and where not, the leaves of an order that breaks it."""
+    """What `verify` says: whether the property holds, or the constraint is redundant. Where it does not, the leaves of an order that breaks it."""
 
     holds: bool
     journal: list[int]
