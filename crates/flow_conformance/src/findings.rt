@@ -1,3 +1,5 @@
+ghost use Rattle.std.specs.Prelude.{◌≡◌, IfOk};
+
 use crate::cause::Finding;
 use crate::judge::Verdict;
 use crate::lines::lines_of;
@@ -30,7 +32,10 @@ impl Findings {
         log: &EventLog,
         cases: Cases,
         of_sequences: Vec<Finding>,
-    ) -> Result<Findings, AllocError> {
+    ) -> Result<Findings, AllocError>
+        ensures cases { IfOk result (λ found. found.cases ≡ cases) }
+        ensures findings { IfOk result (λ found. found.of_sequences ≡ of_sequences) }
+    {
         let lines = lines_of(alloc, log, &cases, &of_sequences)?;
         Ok(Findings {
             cases,

@@ -1,4 +1,4 @@
-ghost use Rattle.std.specs.Prelude.{◌≤◌, IfOk, IfSome};
+ghost use Rattle.std.specs.Prelude.{IfOk, IfSome};
 ghost use Rattle.flow_conformance.specs.Shares.{IsShare, AreShares, IsInShare};
 ghost use Rattle.flow_conformance.specs.Judged.{AreFindings};
 
@@ -76,7 +76,8 @@ fn in_order<J: Judge>(
     Ok(all)
 }
 
-/// Judges each sequence, by so many workers, each in a thread of its own where one can be made.
+/// Judges each sequence, by so many workers, each in a thread of its own where one can be made. Where there is none, they are judged
+/// one after another.
 /// A worker that is done with a sequence takes the next one that none has taken.
 pub fn judge_all<R: Threads + Sync, J: Judge>(
     rt: &R,
@@ -86,7 +87,6 @@ pub fn judge_all<R: Threads + Sync, J: Judge>(
     declared: u32,
     workers: u32,
 ) -> Result<Vec<Finding>, AllocError>
-    requires { 1 ≤ workers }
     ensures { IfOk result (λ found. AreFindings (J.judges judge.now) sequences.now found.items) }
 {
     let threads = sequences.len().min(workers as usize);

@@ -1,0 +1,18 @@
+//! `flowdesk log`, as a call over values: which cases of an event log keep to a workflow, and where each other one leaves it.
+#![tactic(auto)]
+
+mod journals;
+mod judge;
+mod renaming;
+mod source;
+mod stop;
+mod telling;
+mod vocabulary;
+
+pub use journals::journal_of;
+pub use judge::WorkflowJudge;
+pub use renaming::{MapRefusal, Renaming, read_map};
+pub use source::workflow_of;
+pub use stop::LogStop;
+pub use telling::{Form, LogCall, Told, tell_log, write_answer};
+pub use vocabulary::{Vocabulary, events_of_activities, labels_of};
