@@ -1,6 +1,4 @@
 pub mod Columns
-pub mod Pasts
-pub mod ClaimedLeaves
-pub mod MarkLemmas
+pub mod Shown
 pub mod Lines
 pub mod Depictions

@@ -29,7 +29,7 @@ use Rattle.flow_desk.specs.declared.run_file.TheConstants.{GREATEST_RUN}
 use Rattle.flow_desk.specs.declared.stop.DeskStop.{DeskStop}
 use Rattle.flow_desk.specs.declared.stop.DeskStop.TheVariants.{RunTooLong, Line, Label, Illegal, TooLarge, NoMemory}
 use Rattle.flow_desk.specs.declared.report.Untold.TheVariants as untold
-use Rattle.flow_desk.specs.Standing.{steps_for, IsFirstIllegal, IsStanding}
+use Rattle.flow_desk.specs.Replay.{steps_for, IsFirstIllegal, IsReplayed}
 use Rattle.flow_desk.specs.Stopped.{IsStoppedFor}
 use Rattle.flow_desk.specs.Told.{Tells}
 use Rattle.flow_desk.specs.Untold.{IsUntold}
@@ -89,8 +89,8 @@ IsNoRun w text NoMemory = Unit {0}
 IsNoRun w text other = ⊥
 
 -- the file tells a history of the workflow, each entry of it legal, and these are the marks of its run
-abbrev pub HasStanding : Definition → List ℕ → Run → List Mark → Type 0
-HasStanding w text run marks = (first : Option ℕ) × (entries : List Entry) × Tells w text first entries × IsStanding w entries run marks
+abbrev pub HasReplay : Definition → List ℕ → Run → List Mark → Type 0
+HasReplay w text run marks = (first : Option ℕ) × (entries : List Entry) × Tells w text first entries × IsReplayed w entries run marks
 
 -- why a workflow is not drawn
 abbrev pub IsNotDepicted : Said → Definition → DeskStop → Type 0
@@ -101,7 +101,7 @@ IsNotDepicted s w other = ⊥
 -- the marks of a run that the file tells; without a file there are none
 abbrev pub AreMarksFor : Definition → Option (List ℕ) → List Mark → Type 0
 AreMarksFor w None marks = marks ≡ []
-AreMarksFor w (Some text) marks = (run : Run) × HasStanding w text run marks
+AreMarksFor w (Some text) marks = (run : Run) × HasReplay w text run marks
 
 -- what is drawn of what is said: the picture of its workflow, with these marks
 abbrev pub IsDrawnOf : Format → Said → Option (List ℕ) → List ℕ → Type 0

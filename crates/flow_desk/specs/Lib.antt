@@ -1,8 +1,7 @@
 pub mod Place
 pub mod Report
-pub mod Past
 pub mod Mark
-pub mod Standing
+pub mod Replay
 pub mod Fallen
 pub mod Told
 pub mod Untold

@@ -1,49 +1,29 @@
--- Where a run stands at a leaf.
-use Rattle.std.specs.Prelude.{◌≡◌, ◌↔◌, ◌⊎◌, ℕ, true, List, length, Some, slice_get}
-use Rattle.flow_model.specs.Lists.{◌∈◌}
-use Rattle.flow_model.specs.Run.{RunState, current_leaves, leaf_of_claim, IsCurrent}
-use Rattle.flow_core.specs.Run.{Run, schema, now}
-use Rattle.flow_core.specs.Next.{CanAct}
+-- The marks of leaves, by where a run stands at each.
+use Rattle.std.specs.Prelude.{◌≡◌, ℕ, List, length, Some, slice_get}
+use Rattle.flow_core.specs.Run.{Run, schema}
+use Rattle.flow_standing.specs.declared.standing.Standing.{Standing}
+use Rattle.flow_standing.specs.declared.standing.Standing.TheVariants as standing
+use Rattle.flow_standing.specs.Standing.{IsStanding}
 use Rattle.flow_view.specs.declared.mark.Mark.{Mark}
-use Rattle.flow_view.specs.declared.mark.Mark.TheVariants.{Plain, Done, Next, Claimed, Failed, Banned}
-use Rattle.flow_desk.specs.Past.{has_failed}
+use Rattle.flow_view.specs.declared.mark.Mark.TheVariants as mark
 
--- the leaf counts
-abbrev pub IsDone : Run → ℕ → Type 0
-IsDone r leaf = leaf ∈ (now r).journal
+-- the mark that shows it
+abbrev pub mark_of : Standing → Mark
+mark_of standing.Done = mark.Done
+mark_of standing.Claimed = mark.Claimed
+mark_of standing.Next = mark.Next
+mark_of standing.Banned = mark.Banned
+mark_of standing.Failed = mark.Failed
+mark_of standing.Plain = mark.Plain
 
--- a claim on the leaf is out
-abbrev pub IsClaimed : Run → ℕ → Type 0
-IsClaimed r leaf = leaf ∈ current_leaves (now r)
-
--- the claim's leaf was added, if the claim is out
-abbrev pub AddsClaimed : RunState → ℕ → List ℕ → List ℕ → Type 0
-AddsClaimed s claim old new = (leaf : ℕ) → (leaf ∈ new) ↔ ((leaf ∈ old) ⊎ (IsCurrent s claim × (leaf ≡ leaf_of_claim s claim)))
-
--- the leaf is banned
-abbrev pub IsBanned : Run → ℕ → Type 0
-IsBanned r leaf = (place : ℕ) × ((place, leaf) ∈ (now r).bans)
-
--- the last claim on the leaf failed
-abbrev pub HasFailed : Run → ℕ → Type 0
-HasFailed r leaf = has_failed (schema r) r.history leaf ≡ true
-
--- the leaf is neither done nor under a claim
-abbrev pub IsOpenLeaf : Run → ℕ → Type 0
-IsOpenLeaf r leaf = ¬ (IsDone r leaf) × ¬ (IsClaimed r leaf)
-
--- and it can neither be taken nor done
-abbrev pub IsIdle : Run → ℕ → Type 0
-IsIdle r leaf = IsOpenLeaf r leaf × ¬ (CanAct r leaf)
-
--- the mark of the leaf, the first that applies: done, under a claim, may come next, banned, failed, none of these
+-- the mark shows where the run stands at the leaf
 abbrev pub IsMark : Run → ℕ → Mark → Type 0
-IsMark r leaf Done = IsDone r leaf
-IsMark r leaf Claimed = ¬ (IsDone r leaf) × IsClaimed r leaf
-IsMark r leaf Next = IsOpenLeaf r leaf × CanAct r leaf
-IsMark r leaf Banned = IsIdle r leaf × IsBanned r leaf
-IsMark r leaf Failed = IsIdle r leaf × ¬ (IsBanned r leaf) × HasFailed r leaf
-IsMark r leaf Plain = IsIdle r leaf × ¬ (IsBanned r leaf) × ¬ (HasFailed r leaf)
+IsMark r leaf mark.Done = IsStanding r leaf standing.Done
+IsMark r leaf mark.Claimed = IsStanding r leaf standing.Claimed
+IsMark r leaf mark.Next = IsStanding r leaf standing.Next
+IsMark r leaf mark.Banned = IsStanding r leaf standing.Banned
+IsMark r leaf mark.Failed = IsStanding r leaf standing.Failed
+IsMark r leaf mark.Plain = IsStanding r leaf standing.Plain
 
 -- each leaf has its mark, and there are no others
 pub record AreMarks (r : Run) (marks : List Mark) : Type 0 where

@@ -5,7 +5,7 @@ ghost use Rattle.flow_desk.specs.Desk.{IsDrawn, IsNotDrawn, IsDrawnOf, IsNotDraw
 ghost use Rattle.flow_front.specs.Prepared.{IsPrepared};
 
 use crate::depict::depict;
-use crate::run_file::standing_of;
+use crate::run_file::run_told;
 use crate::source::script_of;
 use crate::stop::{DeskStop, stopped};
 use flow_draw::Format;
@@ -82,16 +82,10 @@ fn draw_prepared(
     ensures stop { IfErr result (IsRunNotDrawn (said script) file.now) }
 {
     let Prepared { workflow, compiled } = prepared;
-    match standing_of(alloc, workflow, compiled, file) {
-        Ok(standing) => {
-            let text = depict(
-                alloc,
-                script,
-                standing.core.workflow(),
-                &standing.marks,
-                form,
-            );
-            drop(standing);
+    match run_told(alloc, workflow, compiled, file) {
+        Ok(run) => {
+            let text = depict(alloc, script, run.core.workflow(), &run.marks, form);
+            drop(run);
             text
         }
         Err(stop) => {

@@ -3,11 +3,9 @@
 
 mod depict;
 mod desk;
-mod follow;
 mod front;
 mod limits;
 mod marks;
-mod past;
 mod place;
 mod replay;
 mod report;

@@ -4,13 +4,11 @@ ghost use Rattle.flow_model.specs.Run.{IsLegal};
 ghost use Rattle.flow_plan.specs.Compilation.{IsCompiled};
 ghost use Rattle.flow_workflow.specs.Definition.{schema_of};
 ghost use Rattle.flow_core.specs.Run.{schema};
-ghost use Rattle.flow_desk.specs.Past.{IsPast};
-ghost use Rattle.flow_desk.specs.Standing.{steps_for, IsStanding};
+ghost use Rattle.flow_desk.specs.Replay.{steps_for, IsReplayed};
 ghost use Rattle.flow_desk.specs.Mark.{AreMarks};
 ghost use Rattle.flow_desk.specs.Fallen.{IsFallen};
 
-use crate::marks::leaves;
-use crate::past::Past;
+use crate::marks::marks_of;
 use flow_core::Core;
 use flow_model::{Entry, MOST_ENTRIES};
 use flow_plan::Compiled;
@@ -18,9 +16,9 @@ use flow_view::Mark;
 use flow_workflow::Workflow;
 use std::alloc::{AllocError, Global};
 
-/// Where a run stands.
+/// A run that was made again.
 #[derive(Drop)]
-pub(crate) struct Standing {
+pub(crate) struct Replayed {
     pub(crate) core: Core,
     /// Of each leaf.
     pub(crate) marks: Vec<Mark>,
@@ -45,17 +43,15 @@ impl From<AllocError> for Fallen {
 }
 
 /// Makes the entries of a run that has none yet, one after another. The first that may not be made is told.
-fn replay(core: &mut Core, past: &mut Past, entries: &[Entry]) -> Result<(), Fallen>
-    requires past { IsPast core.old past.old.bans.items past.old.failed.items }
+fn replay(core: &mut Core, entries: &[Entry]) -> Result<(), Fallen>
     requires first { core.old.history ≡ [] }
-    ensures past { OnOk result (IsPast core.new past.new.bans.items past.new.failed.items) }
     ensures run { OnOk result (core.new ≡ record core.old { history = entries.now }) }
     ensures fallen { IfErr result (IsFallen (schema core.old) core.old.limit entries.now) }
 {
     for (index, entry) in entries.iter().enumerate() {
         // the entries so far are legal
         let _ = core.history();
-        if !past.follow(core, *entry)? {
+        if !core.make(*entry) {
             return Err(Fallen::Illegal(index));
         }
     }
@@ -71,20 +67,20 @@ fn steps_for(count: usize) -> u32
     (count.min(MOST_ENTRIES as usize) as u32).max(1)
 }
 
-/// Where the run of a workflow stands after its history.
-pub(crate) fn stand(
+/// The run of a workflow with that history, and the marks of its leaves.
+pub(crate) fn remake(
     alloc: Global,
     workflow: Workflow,
     compiled: Compiled,
     entries: &[Entry],
-) -> Result<Standing, Fallen>
+) -> Result<Replayed, Fallen>
     requires { IsCompiled (schema_of workflow) compiled }
-    ensures standing { IfOk result (λ standing. IsStanding workflow entries.now standing.core standing.marks.items) }
+    ensures run { IfOk result (λ run. IsReplayed workflow entries.now run.core run.marks.items) }
     ensures fallen { IfErr result (IsFallen (schema_of workflow) (steps_for (length entries.now)) entries.now) }
 {
     let mut core = Core::start(alloc, workflow, compiled, steps_for(entries.len()))?;
     match marks_after(alloc, &mut core, entries) {
-        Ok(marks) => Ok(Standing { core, marks }),
+        Ok(marks) => Ok(Replayed { core, marks }),
         Err(fallen) => {
             drop(core);
             Err(fallen)
@@ -100,9 +96,8 @@ fn marks_after(alloc: Global, core: &mut Core, entries: &[Entry]) -> Result<Vec<
     ensures marks { IfOk result (λ marks. AreMarks core.new marks.items) }
     ensures fallen { IfErr result (IsFallen (schema core.old) core.old.limit entries.now) }
 {
-    let mut past = Past::new(alloc, leaves(core))?;
-    replay(core, &mut past, entries)?;
+    replay(core, entries)?;
     // what the run keeps: its history is legal
     let _ = core.history();
-    Ok(past.marks(alloc, core)?)
+    Ok(marks_of(alloc, core)?)
 }

@@ -2,9 +2,9 @@ ghost use Rattle.std.specs.Prelude.{IfOk, IfErr};
 ghost use Rattle.flow_plan.specs.Compilation.{IsCompiled};
 ghost use Rattle.flow_workflow.specs.Definition.{schema_of};
 ghost use Rattle.flow_desk.specs.Told.{Tells};
-ghost use Rattle.flow_desk.specs.Desk.{IsIllegalOn, IsNoRun, HasStanding};
+ghost use Rattle.flow_desk.specs.Desk.{IsIllegalOn, IsNoRun, HasReplay};
 
-use crate::replay::{Fallen, Standing, stand};
+use crate::replay::{Fallen, Replayed, remake};
 use crate::report::{Untold, cut_line};
 use crate::stop::DeskStop;
 use crate::told::{Told, read_run};
@@ -78,21 +78,21 @@ fn illegal(text: &[u8], told: &Told, index: usize) -> DeskStop
     }
 }
 
-/// Where the run stands of which a file tells.
-fn stand_told(
+/// The run that a file tells, made again.
+fn replay_told(
     alloc: Global,
     workflow: Workflow,
     compiled: Compiled,
     text: &[u8],
     told: &Told,
-) -> Result<Standing, DeskStop>
+) -> Result<Replayed, DeskStop>
     requires compiled { IsCompiled (schema_of workflow) compiled }
     requires told { Tells workflow text.now told.now.line told.now.entries.items }
-    ensures standing { IfOk result (λ standing. HasStanding workflow text.now standing.core standing.marks.items) }
+    ensures run { IfOk result (λ run. HasReplay workflow text.now run.core run.marks.items) }
     ensures stop { IfErr result (IsNoRun workflow text.now) }
 {
-    match stand(alloc, workflow, compiled, &told.entries) {
-        Ok(standing) => Ok(standing),
+    match remake(alloc, workflow, compiled, &told.entries) {
+        Ok(run) => Ok(run),
         Err(Fallen::Illegal(index)) => Err(illegal(text, told, index)),
         Err(Fallen::NoMemory) => Err(DeskStop::NoMemory),
     }
@@ -109,19 +109,19 @@ fn read_told(alloc: Global, workflow: &Workflow, text: &[u8]) -> Result<Told, De
     Ok(read_run(alloc, workflow, text)?)
 }
 
-/// Where the run of a workflow stands, of which a file tells.
-pub(crate) fn standing_of(
+/// The run of a workflow that a file tells, with the marks of its leaves.
+pub(crate) fn run_told(
     alloc: Global,
     workflow: Workflow,
     compiled: Compiled,
     text: &[u8],
-) -> Result<Standing, DeskStop>
+) -> Result<Replayed, DeskStop>
     requires { IsCompiled (schema_of workflow) compiled }
-    ensures standing { IfOk result (λ standing. HasStanding workflow text.now standing.core standing.marks.items) }
+    ensures run { IfOk result (λ run. HasReplay workflow text.now run.core run.marks.items) }
     ensures stop { IfErr result (IsNoRun workflow text.now) }
 {
     match read_told(alloc, &workflow, text) {
-        Ok(told) => stand_told(alloc, workflow, compiled, text, &told),
+        Ok(told) => replay_told(alloc, workflow, compiled, text, &told),
         Err(stop) => {
             drop(workflow);
             drop(compiled);

@@ -24,7 +24,7 @@ pub record IsFirstIllegal (w : Schema) (limit : ℕ) (entries : List Entry) (ind
   pub none : ¬ (IsLegal w limit (take (index + 1) entries))
 
 -- the history is legal, and these are the marks of its run
-pub record IsStanding (w : Definition) (entries : List Entry) (run : Run) (marks : List Mark) : Type 0 where
+pub record IsReplayed (w : Definition) (entries : List Entry) (run : Run) (marks : List Mark) : Type 0 where
   pub legal : IsLegal (schema_of w) (steps_for (length entries)) entries
   pub run_is : run ≡ run_with w entries
   pub marks_are : AreMarks run marks
