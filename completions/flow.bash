@@ -78,13 +78,19 @@ _flowdesk() {
     local word=${COMP_WORDS[COMP_CWORD]} before=${COMP_WORDS[COMP_CWORD - 1]}
     COMPREPLY=()
     case $before in
-        --form) mapfile -t COMPREPLY < <(compgen -W "svg mermaid dot" -- "$word") && return ;;
-        --journal) _flow_files "$word" && return ;;
+        --form)
+            local forms="svg mermaid dot"
+            [[ ${COMP_WORDS[1]} == log ]] && forms="text csv json"
+            mapfile -t COMPREPLY < <(compgen -W "$forms" -- "$word") && return
+            ;;
+        --journal | --workflow | --map | --journals) _flow_files "$word" && return ;;
     esac
     if [[ $COMP_CWORD -eq 1 ]]; then
-        mapfile -t COMPREPLY < <(compgen -W "draw explain --help --version" -- "$word")
+        mapfile -t COMPREPLY < <(compgen -W "draw explain log --help --version" -- "$word")
     elif [[ $word == -* && ${COMP_WORDS[1]} == explain ]]; then
         mapfile -t COMPREPLY < <(compgen -W "$(_flow_unused --circles --json)" -- "$word")
+    elif [[ $word == -* && ${COMP_WORDS[1]} == log ]]; then
+        mapfile -t COMPREPLY < <(compgen -W "$(_flow_unused --workflow --case --activity --time --map --form --journals --jobs --budget)" -- "$word")
     elif [[ $word == -* ]]; then
         mapfile -t COMPREPLY < <(compgen -W "$(_flow_unused --journal --form)" -- "$word")
     else

@@ -4,11 +4,13 @@
 ghost use Rattle.std.specs.Prelude.{◌<◌};
 
 mod explained;
+mod logged;
 mod message;
 mod words;
 
 use explained::explain_file;
 use flow_desk::{GREATEST_INPUT, GREATEST_RUN, drawn, read_front};
+use logged::log_file;
 use message::{NO_MEMORY, tell};
 use std::alloc::AllocError;
 use std::env;
@@ -16,6 +18,7 @@ use std::fs::File;
 use std::io::{self, Write};
 use std::process::ExitCode;
 use std::rt::{Env, Files};
+use std::thread::Threads;
 use words::{Call, call_in, desk_command};
 
 /// The status where the words are no call.
@@ -98,7 +101,7 @@ fn draw<R: Files<File = File> + AllocGlobal + Print + Eprint>(rt: &R, call: Call
 }
 
 /// Reads the words, does what they ask for, and gives the status.
-fn desk<R: Files<File = File> + Env + AllocGlobal + Print + Eprint>(rt: &R) -> u8 {
+fn desk<R: Files<File = File> + Env + AllocGlobal + Print + Eprint + Threads + Sync>(rt: &R) -> u8 {
     let Ok(words) = words_given(rt) else {
         return NO_MEMORY;
     };
@@ -108,6 +111,7 @@ fn desk<R: Files<File = File> + Env + AllocGlobal + Print + Eprint>(rt: &R) -> u
     match command.try_get_matches_from(words.as_slice()) {
         Ok(matches) => match matches.subcommand() {
             Some((name, words)) if name == "explain" => explain_file(rt, words),
+            Some((name, words)) if name == "log" => log_file(rt, words),
             _ => match call_in(&matches) {
                 Some(call) => draw(rt, call),
                 None => WORDS,

@@ -1,7 +1,7 @@
 use flow_desk::{DeskStop, GREATEST_RUN, Position, Telling, position_of};
 
 /// The status where a file is refused.
-const REFUSED: u8 = 3;
+pub(crate) const REFUSED: u8 = 3;
 
 /// The status where there was not enough memory.
 pub(crate) const NO_MEMORY: u8 = 6;

@@ -1,4 +1,5 @@
 use crate::explained::explain_command;
+use crate::logged::log_command;
 use clap::builder::ValueParser;
 use clap::{Arg, ArgAction, ArgMatches, Command};
 use flow_desk::Format;
@@ -18,12 +19,14 @@ pub(crate) struct Call<'a> {
 pub(crate) fn desk_command<'a>(alloc: Global) -> Result<Command<'a>, AllocError> {
     let draw = draw_command(alloc)?;
     let explain = explain_command(alloc)?;
+    let log = log_command(alloc)?;
     Command::new(alloc, "flowdesk")
         .version("1")
         .about("Shows workflows of flow")
         .subcommand_required(true)
         .subcommand(draw)?
-        .subcommand(explain)
+        .subcommand(explain)?
+        .subcommand(log)
 }
 
 /// The words that ask for a picture.
