@@ -9,7 +9,7 @@ use Rattle.flow_case_cli.specs.declared.case.Case.{Case}
 
 -- its run
 abbrev pub case_of : {D T : Type 0} {g h : _} → Case D T g h → CaseRun
-case_of c = c.scout
+case_of c = c.run
 
 -- the disk of its run, and the disk of its trail
 abbrev pub keep_disk : {D T : Type 0} {g h : _} → Case D T g h → D

@@ -10,6 +10,7 @@ ghost use Rattle.flow_case_cli.specs.Asked.{TellsLine, IsToldFirst};
 
 use crate::asker::Asker;
 use crate::case::Case;
+use crate::keep_last::keep_last;
 use crate::line::leaf_of;
 use crate::tell::tell_last;
 use flow_ask::{Answer, Ask, Refusal};
@@ -41,20 +42,13 @@ impl<D: Disk, T: Disk> Case<D, T> {
         if self.broken {
             return Err(Refusal::Broken);
         }
-        let count = self.scout.core().history().len();
-        let leaf = leaf_of(self.scout.core(), ask);
-        let _ = Asked::answer(&mut self.scout, ask, by);
+        let count = self.run.core().history().len();
+        let leaf = leaf_of(self.run.core(), ask);
+        let answer = Asked::answer(&mut self.run, ask, by);
         self.broken = true;
-        tell_last(
-            alloc,
-            &mut self.trail,
-            self.scout.core(),
-            count,
-            leaf,
-            asker,
-        )?;
-        let kept = Asked::answer(&mut self.keep, ask, by);
-        self.broken = self.keep.is_broken();
-        kept
+        tell_last(alloc, &mut self.trail, self.run.core(), count, leaf, asker)?;
+        keep_last(&mut self.keep, self.run.core(), ask, by)?;
+        self.broken = false;
+        answer
     }
 }

@@ -9,16 +9,16 @@ use flow_disk::Disk;
 use flow_keep::Keep;
 use flow_trail::Trail;
 
-/// A case: its run, which is kept in a file entry by entry, and its trail, which tells each entry in a file of its own before the entry is
-/// kept. A second run with the same history is asked first, since only what it answers says which entry comes.
+/// A case: its run under its policy, which is asked; the same run without a policy, which is kept in a file entry by entry; and the trail,
+/// which tells each entry in a file of its own before the entry is kept.
 #[derive(Drop)]
 pub struct Case<D: Disk, T: Disk> {
-    pub(crate) scout: CaseRun,
-    pub(crate) keep: Keep<D, CaseRun>,
+    pub(crate) run: CaseRun,
+    pub(crate) keep: Keep<D>,
     pub(crate) trail: Trail<T>,
     pub(crate) broken: bool,
-    ghost same: { broken ≡ false → holding.run_of keep ≡ scout },
+    ghost same: { broken ≡ false → holding.run_of keep ≡ run_of run },
     ghost kept: { broken ≡ false → holding.is_broken keep ≡ false },
     ghost told: { broken ≡ false → held.is_broken trail ≡ false },
-    ghost counted: { broken ≡ false → (end_of (held.start_of trail) (held.said_in trail)).count ≡ length (run_of scout).history },
+    ghost counted: { broken ≡ false → (end_of (held.start_of trail) (held.said_in trail)).count ≡ length (run_of run).history },
 }

@@ -4,6 +4,7 @@
 mod ask;
 mod asker;
 mod case;
+mod keep_last;
 mod line;
 mod resume;
 mod tell;

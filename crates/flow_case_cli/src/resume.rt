@@ -1,5 +1,6 @@
-//! A case taken up again: its run follows the entries that are kept.
-ghost use Rattle.std.specs.Prelude.{◌≡◌, [], false, length, IfOk, IfErr, OnOk};
+//! A case taken up again: its run makes the entries that are kept.
+ghost use Rattle.std.specs.Prelude.{◌≡◌, [], length, false, IfOk, IfErr};
+ghost use Rattle.flow_core.specs.Run.{Run};
 ghost use Rattle.flow_case.specs.CaseRun.{run_of, case_with, IsFirstUnmade};
 ghost use Rattle.flow_keep.specs.Holding as holding;
 ghost use Rattle.flow_trail.specs.Held as held;
@@ -7,7 +8,6 @@ ghost use Rattle.flow_trail.specs.Lines.{end_of};
 
 use crate::case::Case;
 use flow_case::CaseRun;
-use flow_core::Core;
 use flow_disk::Disk;
 use flow_keep::Keep;
 use flow_trail::Trail;
@@ -21,57 +21,41 @@ pub struct Unresumed<D: Disk, T: Disk> {
     pub index: usize,
 }
 
-/// Both make the entries of the run, or the first that may not be made is told.
-fn follow_both(scout: &mut CaseRun, twin: &mut CaseRun, core: &Core) -> Result<(), usize>
-    requires { twin.old ≡ scout.old }
-    ensures scout { OnOk result (scout.new ≡ case_with scout.old core.now.history) }
-    ensures twin { OnOk result (twin.new ≡ scout.new) }
-    ensures unmade { IfErr result (IsFirstUnmade scout.old core.now.history) }
-{
-    let history = core.history();
-    scout.follow(history)?;
-    twin.follow(history)
-}
-
 impl<D: Disk, T: Disk> Case<D, T> {
     ghost use Rattle.flow_case_cli.specs.Held.{case_of, keep_disk, trail_disk, start_of, said_in, is_broken};
 
-    /// The case of a kept run and its trail, which tells as many entries. It is given as it begins, twice: one is asked first, and the other
-    /// is kept.
+    /// The case of a kept run and its trail, which tells as many entries. The run is given as it begins, of the workflow and the limit that the
+    /// kept run has.
     pub fn resume(
-        scout: CaseRun,
-        twin: CaseRun,
+        run: CaseRun,
         keep: Keep<D>,
         trail: Trail<T>,
     ) -> Result<Case<D, T>, Unresumed<D, T>>
-        requires alike { twin ≡ scout }
-        requires empty { (run_of scout).history ≡ [] }
+        requires begins { run_of run ≡ record (holding.run_of keep) { history = [] } }
         requires kept { holding.is_broken keep ≡ false }
         requires told { held.is_broken trail ≡ false }
         requires counted { (end_of (held.start_of trail) (held.said_in trail)).count ≡ length (holding.run_of keep).history }
-        ensures case { IfOk result (λ c. case_of c ≡ case_with scout (holding.run_of keep).history) }
+        ensures case { IfOk result (λ c. case_of c ≡ case_with run (holding.run_of keep).history) }
         ensures whole { IfOk result (λ c. is_broken c ≡ false) }
         ensures keep { IfOk result (λ c. keep_disk c ≡ holding.disk_of keep) }
         ensures trail { IfOk result (λ c. trail_disk c ≡ held.disk_of trail) }
         ensures start { IfOk result (λ c. start_of c ≡ held.start_of trail) }
         ensures said { IfOk result (λ c. said_in c ≡ held.said_in trail) }
         // it is refused
-        ensures unmade { IfErr result (λ u. IsFirstUnmade scout (holding.run_of keep).history u.index) }
+        ensures unmade { IfErr result (λ u. IsFirstUnmade run (holding.run_of keep).history u.index) }
         ensures keep_back { IfErr result (λ u. u.keep ≡ holding.disk_of keep) }
         ensures trail_back { IfErr result (λ u. u.trail ≡ held.disk_of trail) }
     {
-        let mut scout = scout;
-        let mut twin = twin;
-        match follow_both(&mut scout, &mut twin, keep.core()) {
+        let mut run = run;
+        match run.follow(keep.core().history()) {
             Ok(()) => Ok(Case {
-                scout,
-                keep: keep.through(twin),
+                run,
+                keep,
                 trail,
                 broken: false,
             }),
             Err(index) => {
-                drop(scout);
-                drop(twin);
+                drop(run);
                 Err(Unresumed {
                     keep: keep.into_disk(),
                     trail: trail.into_disk(),
