@@ -1,3 +1,5 @@
+ghost use Rattle.std.specs.Prelude.{◌≡◌, IfOk, IfSome};
+
 use crate::folder::{ENTRIES, FolderFault, TRAIL, path_in};
 use flow_disk::{Disk, DiskFailed, FileDisk};
 use std::fs::{File, Files, TryLockError};
@@ -27,7 +29,9 @@ fn is_held<R: Files<File = File>>(rt: &R, path: &str) -> io::Result<bool> {
 }
 
 /// The file, where no other process has it.
-fn open_free<'a, R: Files<File = File>>(rt: &'a R, path: &str) -> Option<FileDisk<'a, R>> {
+fn open_free<'a, R: Files<File = File>>(rt: &'a R, path: &str) -> Option<FileDisk<'a, R>>
+    ensures { IfSome result (λ disk. ⟦<FileDisk<'a, R> as Disk>⟧.faults disk ≡ 0) }
+{
     let mut disk = FileDisk::new(rt);
     match disk.open(path) {
         Ok(()) => Some(disk),
@@ -40,7 +44,9 @@ fn open_when_free<'a, R: Files<File = File> + Clock>(
     rt: &'a R,
     path: &str,
     wait: Duration,
-) -> Result<FileDisk<'a, R>, FolderFault> {
+) -> Result<FileDisk<'a, R>, FolderFault>
+    ensures { IfOk result (λ disk. ⟦<FileDisk<'a, R> as Disk>⟧.faults disk ≡ 0) }
+{
     let began = Instant::now(rt)?;
     let mut left = TRIES;
     for _ in 0..u64::MAX {
@@ -67,7 +73,10 @@ pub fn open_disks<'a, R: Files<File = File> + AllocGlobal + Clock>(
     rt: &'a R,
     folder: &str,
     wait: Duration,
-) -> Result<CaseDisks<'a, R>, FolderFault> {
+) -> Result<CaseDisks<'a, R>, FolderFault>
+    ensures entries { IfOk result (λ disks. ⟦<FileDisk<'a, R> as Disk>⟧.faults disks.entries ≡ 0) }
+    ensures trail { IfOk result (λ disks. ⟦<FileDisk<'a, R> as Disk>⟧.faults disks.trail ≡ 0) }
+{
     let entries = open_when_free(rt, &path_in(rt.alloc(), folder, ENTRIES)?, wait)?;
     let trail = open_when_free(rt, &path_in(rt.alloc(), folder, TRAIL)?, wait)?;
     Ok(CaseDisks { entries, trail })

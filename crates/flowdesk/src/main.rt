@@ -3,11 +3,15 @@
 
 ghost use Rattle.std.specs.Prelude.{◌<◌};
 
+mod case_words;
+mod cases;
 mod explained;
 mod logged;
 mod message;
 mod words;
 
+use case_words::is_case_command;
+use cases::{ask_case, dialogue, make, verify};
 use explained::explain_file;
 use flow_desk::{GREATEST_INPUT, GREATEST_RUN, drawn, read_front};
 use logged::log_file;
@@ -19,6 +23,7 @@ use std::io::{self, Write};
 use std::process::ExitCode;
 use std::rt::{Env, Files};
 use std::thread::Threads;
+use std::time::Clock;
 use words::{Call, call_in, desk_command};
 
 /// The status where the words are no call.
@@ -101,7 +106,9 @@ fn draw<R: Files<File = File> + AllocGlobal + Print + Eprint>(rt: &R, call: Call
 }
 
 /// Reads the words, does what they ask for, and gives the status.
-fn desk<R: Files<File = File> + Env + AllocGlobal + Print + Eprint + Threads + Sync>(rt: &R) -> u8 {
+fn desk<
+    R: Files<File = File> + Env + Clock + Input + AllocGlobal + Print + Eprint + Threads + Sync,
+>(rt: &R) -> u8 {
     let Ok(words) = words_given(rt) else {
         return NO_MEMORY;
     };
@@ -112,6 +119,10 @@ fn desk<R: Files<File = File> + Env + AllocGlobal + Print + Eprint + Threads + S
         Ok(matches) => match matches.subcommand() {
             Some((name, words)) if name == "explain" => explain_file(rt, words),
             Some((name, words)) if name == "log" => log_file(rt, words),
+            Some((name, words)) if name == "new" => make(rt, words),
+            Some((name, words)) if name == "verify" => verify(rt, words),
+            Some((name, words)) if name == "open" => dialogue(rt, words, rt.reader()),
+            Some((name, words)) if is_case_command(name) => ask_case(rt, name, words),
             _ => match call_in(&matches) {
                 Some(call) => draw(rt, call),
                 None => WORDS,

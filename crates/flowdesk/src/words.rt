@@ -1,3 +1,4 @@
+use crate::case_words::with_cases;
 use crate::explained::explain_command;
 use crate::logged::log_command;
 use clap::builder::ValueParser;
@@ -20,13 +21,14 @@ pub(crate) fn desk_command<'a>(alloc: Global) -> Result<Command<'a>, AllocError>
     let draw = draw_command(alloc)?;
     let explain = explain_command(alloc)?;
     let log = log_command(alloc)?;
-    Command::new(alloc, "flowdesk")
+    let command = Command::new(alloc, "flowdesk")
         .version("1")
-        .about("Shows workflows of flow")
+        .about("Shows workflows of flow, and drives cases by names")
         .subcommand_required(true)
         .subcommand(draw)?
         .subcommand(explain)?
-        .subcommand(log)
+        .subcommand(log)?;
+    with_cases(alloc, command)
 }
 
 /// The words that ask for a picture.

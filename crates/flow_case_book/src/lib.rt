@@ -1,0 +1,13 @@
+//! A case that is kept: its texts, its run, and who made each entry.
+#![tactic(auto)]
+
+mod book;
+mod fresh;
+mod names;
+mod opened;
+mod stop;
+
+pub use book::CaseBook;
+pub use fresh::{CaseTexts, check_texts};
+pub use opened::{KeptTexts, open_case};
+pub use stop::CaseStop;

@@ -1,0 +1,61 @@
+ghost use Rattle.std.specs.Prelude.{◌≡◌};
+
+use flow_case::CasePolicyRefusal;
+use flow_front::Stop;
+use flow_keep::KeepRefusal;
+use flow_trail::OpenRefusal;
+use std::alloc::AllocError;
+
+/// Why a case is not opened.
+#[derive(Drop)]
+pub enum CaseStop {
+    /// The workflow is refused.
+    Workflow(Stop),
+    /// The policy is refused.
+    Policy(CasePolicyRefusal),
+    /// The entry of that number, from 0, is of no run of the workflow, or duties or rules forbid it.
+    Foreign(usize),
+    /// The trail is refused.
+    Trail(OpenRefusal),
+    /// A call of the disk failed.
+    Disk,
+    NoMemory,
+}
+
+impl From<AllocError> for CaseStop {
+    fn from(_error: AllocError) -> CaseStop {
+        CaseStop::NoMemory
+    }
+}
+
+impl From<Stop> for CaseStop {
+    fn from(stop: Stop) -> CaseStop {
+        CaseStop::Workflow(stop)
+    }
+}
+
+impl From<CasePolicyRefusal> for CaseStop {
+    fn from(refusal: CasePolicyRefusal) -> CaseStop {
+        CaseStop::Policy(refusal)
+    }
+}
+
+impl From<KeepRefusal> for CaseStop {
+    fn from(refusal: KeepRefusal) -> CaseStop {
+        match refusal {
+            KeepRefusal::DiskFault => CaseStop::Disk,
+            KeepRefusal::Foreign { index } => CaseStop::Foreign(index as usize),
+            KeepRefusal::NoMemory => CaseStop::NoMemory,
+        }
+    }
+}
+
+impl From<OpenRefusal> for CaseStop {
+    fn from(refusal: OpenRefusal) -> CaseStop {
+        match refusal {
+            OpenRefusal::DiskFault => CaseStop::Disk,
+            OpenRefusal::NoMemory => CaseStop::NoMemory,
+            _ => CaseStop::Trail(refusal),
+        }
+    }
+}

@@ -1,0 +1,199 @@
+use crate::book::{Book, Speaker};
+use crate::page::{Form, Page};
+use crate::todo::label_of;
+use flow_ask::{Answer, Ask, Made, Refusal};
+use flow_case_words::print_reply;
+use flow_record::print_history;
+use flow_standing::{TakenBack, taken_back};
+use std::alloc::{AllocError, Global};
+
+/// What came of one ask.
+#[derive(Drop)]
+pub(crate) struct Asked {
+    pub(crate) ask: Ask,
+    /// The task or step that it was about.
+    pub(crate) task: Vec<u8>,
+    pub(crate) answer: Answer,
+    /// What a step back took, if it was one.
+    pub(crate) taken: Vec<TakenBack>,
+    /// How long the history was before it.
+    pub(crate) before: usize,
+}
+
+/// The leaf that the ask is about, or that its refusal names.
+fn leaf_of<B: Book>(book: &B, ask: Ask, answer: &Answer) -> Option<u32> {
+    match answer {
+        Err(Refusal::Final { leaf }) => return Some(*leaf),
+        Err(Refusal::ClaimsOut { claim }) => return leaf_of_claim(book, *claim),
+        _ => {}
+    }
+    match ask {
+        Ask::Take(leaf) | Ask::Do(leaf) => Some(leaf),
+        Ask::Done(claim) | Ask::Fail(claim) => leaf_of_claim(book, claim),
+        Ask::Rewind | Ask::Commit => None,
+    }
+}
+
+fn leaf_of_claim<B: Book>(book: &B, claim: u32) -> Option<u32> {
+    match book.core().call_of(claim) {
+        Some(call) => Some(call.leaf),
+        None => None,
+    }
+}
+
+/// The name of what the ask is about, and the number where it has none.
+fn task_of<B: Book>(
+    alloc: Global,
+    book: &B,
+    ask: Ask,
+    answer: &Answer,
+) -> Result<Vec<u8>, AllocError> {
+    match leaf_of(book, ask, answer) {
+        Some(leaf) if leaf < book.core().workflow().tree().leaves() => label_of(alloc, book, leaf),
+        _ => numbered(alloc, ask),
+    }
+}
+
+/// The number of the leaf or the claim that the ask is about, if it is about one.
+fn numbered(alloc: Global, ask: Ask) -> Result<Vec<u8>, AllocError> {
+    let mut page = Page::new(alloc);
+    match ask {
+        Ask::Take(number) | Ask::Do(number) | Ask::Done(number) | Ask::Fail(number) => page.number(
+            number,
+        )?,
+        Ask::Rewind | Ask::Commit => {}
+    }
+    Ok(page.into_text())
+}
+
+/// Asks one thing, and notes what came of it.
+pub(crate) fn ask_one<B: Book>(
+    alloc: Global,
+    book: &mut B,
+    ask: Ask,
+    speaker: Speaker<'_>,
+) -> Result<Asked, AllocError> {
+    let before = book.core().history().len();
+    let answer = book.ask(ask, speaker);
+    let task = task_of(alloc, book, ask, &answer)?;
+    let mut taken = Vec::new(alloc);
+    if let Ok(Made::Rewound(_)) = answer {
+        for one in taken_back(alloc, book.core())?.iter() {
+            if one.rewound == before {
+                taken.push(*one)?;
+            }
+        }
+    }
+    Ok(Asked {
+        ask,
+        task,
+        answer,
+        taken,
+        before,
+    })
+}
+
+/// What came of it in words.
+pub(crate) fn asked_words<B: Book>(
+    alloc: Global,
+    book: &B,
+    speaker: Speaker<'_>,
+    asked: &Asked,
+) -> Result<Vec<u8>, AllocError> {
+    let mut page = Page::new(alloc);
+    page.bytes(&print_reply(alloc, speaker.name.as_bytes(), &asked.task, &asked.answer)?)?;
+    if is_final_done(book, asked) {
+        page.text(", for good: no step back goes over it")?;
+    }
+    page.text("\n")?;
+    for taken in asked.taken.iter() {
+        page.text("taken back, to be undone outside: ")?;
+        push_taken(alloc, &mut page, book, taken)?;
+        page.text("\n")?;
+    }
+    Ok(page.into_text())
+}
+
+/// Whether a final event was done.
+fn is_final_done<B: Book>(book: &B, asked: &Asked) -> bool {
+    let (Ask::Done(claim), Ok(Made::Done)) = (asked.ask, asked.answer) else {
+        return false;
+    };
+    match book.core().call_of(claim) {
+        Some(call) => book.is_final(call.event),
+        None => false,
+    }
+}
+
+/// Adds a task that a step back took.
+pub(crate) fn push_taken<B: Book>(
+    alloc: Global,
+    page: &mut Page,
+    book: &B,
+    taken: &TakenBack,
+) -> Result<(), AllocError> {
+    page.bytes(&label_of(alloc, book, taken.leaf)?)?;
+    page.text(" (claim ")?;
+    page.number(taken.claim)?;
+    page.text(", done by ")?;
+    page.text(book.user_name(taken.by))?;
+    page.text(")")
+}
+
+/// Adds the members of an object that tell what was made, behind others.
+pub(crate) fn push_made<B: Book>(
+    alloc: Global,
+    page: &mut Page,
+    book: &B,
+    asked: &Asked,
+) -> Result<(), AllocError> {
+    if let Ok(Made::Claim(call)) = asked.answer {
+        page.member("task")?;
+        page.quoted(&asked.task)?;
+        page.member("claim")?;
+        page.number(call.claim)?;
+        page.member("attempt")?;
+        page.number(call.attempt)?;
+        page.member("key")?;
+        let mut key = Page::new(alloc);
+        key.text(book.path())?;
+        key.text("/")?;
+        key.bytes(&asked.task)?;
+        page.quoted(&key.into_text())?;
+    }
+    if asked.taken.is_empty() {
+        return Ok(());
+    }
+    page.member("taken_back")?;
+    page.text("[")?;
+    for (index, taken) in asked.taken.iter().enumerate() {
+        page.between(index, ",")?;
+        page.quoted(&label_of(alloc, book, taken.leaf)?)?;
+    }
+    page.text("]")
+}
+
+/// Adds the entries of the history from that place on, as `flowkeep` prints them.
+pub(crate) fn push_entries<B: Book>(
+    alloc: Global,
+    page: &mut Page,
+    book: &B,
+    from: usize,
+) -> Result<(), AllocError> {
+    page.text("[")?;
+    let history = book.core().history();
+    for (index, entry) in history.iter().skip(from).enumerate() {
+        page.between(index, ",")?;
+        let line = print_history(alloc, &[*entry])?;
+        page.quoted(trimmed(&line))?;
+    }
+    page.text("]")
+}
+
+/// The line without its line feed.
+fn trimmed(line: &[u8]) -> &[u8] {
+    match line.split_last() {
+        Some((b'\n', rest)) => rest,
+        _ => line,
+    }
+}

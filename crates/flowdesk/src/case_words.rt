@@ -1,0 +1,194 @@
+use clap::{Arg, ArgAction, ArgMatches, Command};
+use std::alloc::{AllocError, Global};
+
+/// A command of a case: its name, what it is about, and whether it names a task.
+struct CaseCommand {
+    name: &'static str,
+    about: &'static str,
+    wants: Option<&'static str>,
+}
+
+const COMMANDS: [CaseCommand; 14] = [
+    CaseCommand {
+        name: "take",
+        about: "Takes a task, after the tests and updates that it waits for",
+        wants: Some("the task: the name of its event, or NAME@LEAF"),
+    },
+    CaseCommand {
+        name: "done",
+        about: "Tells that a task succeeded",
+        wants: Some("the task that is out, or the number of its claim"),
+    },
+    CaseCommand {
+        name: "fail",
+        about: "Tells that a task failed",
+        wants: Some("the task that is out, or the number of its claim"),
+    },
+    CaseCommand {
+        name: "do",
+        about: "Makes a test of a fact, or a change of one",
+        wants: Some("the label in quotes, or the number of the leaf"),
+    },
+    CaseCommand {
+        name: "rewind",
+        about: "Steps back to the last place at which another choice is free",
+        wants: None,
+    },
+    CaseCommand {
+        name: "commit",
+        about: "Ends the case",
+        wants: None,
+    },
+    CaseCommand {
+        name: "todo",
+        about: "Shows what may be begun and by whom, and what is out",
+        wants: None,
+    },
+    CaseCommand {
+        name: "why",
+        about: "Tells why a task may not be taken now",
+        wants: Some("the task"),
+    },
+    CaseCommand {
+        name: "history",
+        about: "Shows who did what, and when",
+        wants: None,
+    },
+    CaseCommand {
+        name: "undone",
+        about: "Shows what steps back took, to be undone outside",
+        wants: None,
+    },
+    CaseCommand {
+        name: "facts",
+        about: "Shows the facts that hold",
+        wants: None,
+    },
+    CaseCommand {
+        name: "report",
+        about: "Shows the report that flowkeep prints",
+        wants: None,
+    },
+    CaseCommand {
+        name: "verify",
+        about: "Checks entries and trail, and shows the last seal",
+        wants: None,
+    },
+    CaseCommand {
+        name: "open",
+        about: "Answers commands from standard input, a line each",
+        wants: None,
+    },
+];
+
+/// Whether it is the name of a command of a case.
+pub(crate) fn is_case_command(name: &str) -> bool {
+    COMMANDS.iter().any(|command| command.name == name)
+}
+
+fn option<'a>(
+    alloc: Global,
+    name: &'static str,
+    value: &'static str,
+    help: &'static str,
+) -> Arg<'a> {
+    Arg::new(alloc, name)
+        .long(name)
+        .value_name(value)
+        .help(help)
+        .action(ArgAction::Set)
+}
+
+fn case_arg<'a>(alloc: Global) -> Arg<'a> {
+    Arg::new(alloc, "case")
+        .value_name("CASE")
+        .help("the folder of the case")
+        .required(true)
+        .action(ArgAction::Set)
+}
+
+/// An option with a value: its name, what stands for the value, and what it means.
+const OPTIONS: [(&str, &str, &str); 4] = [
+    ("as", "USER", "who asks; without it the login name"),
+    ("note", "TEXT", "a note for the trail"),
+    ("at", "TIME", "when; without it the system's time"),
+    (
+        "wait",
+        "SECONDS",
+        "how long to wait for another command on the case; 5 without it",
+    ),
+];
+
+/// The command with what each command of a case may be given besides.
+fn with_options<'a>(alloc: Global, command: Command<'a>) -> Result<Command<'a>, AllocError> {
+    let mut command = command.arg(json_arg(alloc))?;
+    for (name, value, help) in OPTIONS {
+        command = command.arg(option(alloc, name, value, help))?;
+    }
+    Ok(command)
+}
+
+fn json_arg<'a>(alloc: Global) -> Arg<'a> {
+    Arg::new(alloc, "json")
+        .long("json")
+        .help("answers in JSON, an object a line")
+        .action(ArgAction::SetTrue)
+}
+
+fn task_arg<'a>(alloc: Global, help: &'static str) -> Arg<'a> {
+    Arg::new(alloc, "task")
+        .value_name("TASK")
+        .help(help)
+        .required(true)
+        .action(ArgAction::Set)
+}
+
+/// The words of one command.
+fn command_of<'a>(alloc: Global, command: &CaseCommand) -> Result<Command<'a>, AllocError> {
+    let words = Command::new(alloc, command.name).about(command.about);
+    let words = with_options(alloc, words.arg(case_arg(alloc))?)?;
+    match command.wants {
+        Some(help) => words.arg(task_arg(alloc, help)),
+        None => Ok(words),
+    }
+}
+
+/// The words that make a case.
+fn new_command<'a>(alloc: Global) -> Result<Command<'a>, AllocError> {
+    let workflow = option(alloc, "workflow", "FILE", "the text of the workflow").required(true);
+    Command::new(alloc, "new")
+        .about("Makes the folder of a case")
+        .arg(case_arg(alloc))?
+        .arg(workflow)?
+        .arg(option(
+            alloc,
+            "policy",
+            "FILE",
+            "who may do what; without it anybody may do anything",
+        ))
+}
+
+/// The command with those of cases besides.
+pub(crate) fn with_cases<'a>(
+    alloc: Global,
+    command: Command<'a>,
+) -> Result<Command<'a>, AllocError> {
+    let mut command = command.subcommand(new_command(alloc)?)?;
+    for case in COMMANDS.iter() {
+        let one = command_of(alloc, case)?;
+        command = command.subcommand(one)?;
+    }
+    Ok(command)
+}
+
+/// The line that a command is, as a dialogue has it.
+pub(crate) fn line_in(
+    alloc: Global,
+    name: &str,
+    words: &ArgMatches<'_>,
+) -> Result<String, AllocError> {
+    match words.get_str("task") {
+        Some(task) => format!(in alloc; "{name} {task}"),
+        None => format!(in alloc; "{name}"),
+    }
+}
