@@ -53,15 +53,23 @@ fn step_text(alloc: Global, entry: Entry) -> Result<String, AllocError> {
     format!(in alloc; "{step}")
 }
 
+/// The leaf on which the claim was given.
+fn leaf_of_claim(core: &Core, claim: u32) -> Option<u32> {
+    for entry in core.history() {
+        match entry.step {
+            Step::Took { claim: given, leaf } if given == claim => return Some(leaf),
+            _ => {}
+        }
+    }
+    None
+}
+
 /// The leaf that an entry is about, if it is about one.
 fn leaf_of(core: &Core, entry: Entry) -> Option<u32> {
     match entry.step {
         Step::Took { leaf, .. } | Step::Did { leaf } => Some(leaf),
         Step::Done { claim } | Step::Failed { claim, .. } | Step::Late { claim } => {
-            match core.call_of(claim) {
-                Some(call) => Some(call.leaf),
-                None => None,
-            }
+            leaf_of_claim(core, claim)
         }
         Step::Rewound { .. } | Step::Committed => None,
     }

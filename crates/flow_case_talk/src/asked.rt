@@ -3,6 +3,7 @@ use crate::page::{Form, Page};
 use crate::todo::label_of;
 use flow_ask::{Answer, Ask, Made, Refusal};
 use flow_case_words::print_reply;
+use flow_model::Step;
 use flow_record::print_history;
 use flow_standing::{TakenBack, taken_back};
 use std::alloc::{AllocError, Global};
@@ -34,11 +35,15 @@ fn leaf_of<B: Book>(book: &B, ask: Ask, answer: &Answer) -> Option<u32> {
     }
 }
 
+/// The leaf on which the claim was given.
 fn leaf_of_claim<B: Book>(book: &B, claim: u32) -> Option<u32> {
-    match book.core().call_of(claim) {
-        Some(call) => Some(call.leaf),
-        None => None,
+    for entry in book.core().history() {
+        match entry.step {
+            Step::Took { claim: given, leaf } if given == claim => return Some(leaf),
+            _ => {}
+        }
     }
+    None
 }
 
 /// The name of what the ask is about, and the number where it has none.
@@ -119,8 +124,11 @@ fn is_final_done<B: Book>(book: &B, asked: &Asked) -> bool {
     let (Ask::Done(claim), Ok(Made::Done)) = (asked.ask, asked.answer) else {
         return false;
     };
-    match book.core().call_of(claim) {
-        Some(call) => book.is_final(call.event),
+    let Some(leaf) = leaf_of_claim(book, claim) else {
+        return false;
+    };
+    match book.core().workflow().tree().event(leaf) {
+        Some(event) => book.is_final(event),
         None => false,
     }
 }

@@ -57,17 +57,27 @@ fn why_text<B: Book>(alloc: Global, book: &mut B, task: &TaskRef) -> Result<Vec<
     Ok(page.into_text())
 }
 
+/// The leaves on which claims were given, by the numbers of these, which begin at 1.
+fn leaves_taken<B: Book>(alloc: Global, book: &B) -> Result<Vec<u32>, AllocError> {
+    let mut leaves = Vec::new(alloc);
+    for entry in book.core().history() {
+        if let Step::Took { leaf, .. } = entry.step {
+            leaves.push(leaf)?;
+        }
+    }
+    Ok(leaves)
+}
+
 /// The leaf that an entry is about, if it is about one.
-fn leaf_of_entry<B: Book>(book: &B, entry: Entry) -> Option<u32> {
+fn leaf_of_entry(taken: &[u32], entry: Entry) -> Option<u32> {
     match entry.step {
         Step::Took { leaf, .. } | Step::Did { leaf } => Some(leaf),
-        Step::Done { claim } | Step::Failed { claim, .. } | Step::Late { claim } => match book
-            .core()
-            .call_of(claim)
-        {
-            Some(call) => Some(call.leaf),
-            None => None,
-        },
+        Step::Done { claim } | Step::Failed { claim, .. } | Step::Late { claim } => {
+            match taken.get((claim as usize).wrapping_sub(1)) {
+                Some(leaf) => Some(*leaf),
+                None => None,
+            }
+        }
         Step::Rewound { .. } | Step::Committed => None,
     }
 }
@@ -87,11 +97,12 @@ fn step_word(step: Step) -> &'static str {
 
 /// The history, a line an entry: its number, when, who, what, the note.
 fn history_text<B: Book>(alloc: Global, book: &B, form: Form) -> Result<Vec<u8>, AllocError> {
+    let taken = leaves_taken(alloc, book)?;
     let mut page = Page::new(alloc);
     for (place, entry) in book.core().history().iter().enumerate() {
         match form {
-            Form::Words => push_entry(alloc, &mut page, book, place, *entry)?,
-            Form::Json => push_entry_object(alloc, &mut page, book, place, *entry)?,
+            Form::Words => push_entry(alloc, &mut page, book, &taken, place, *entry)?,
+            Form::Json => push_entry_object(alloc, &mut page, book, &taken, place, *entry)?,
         }
         page.text("\n")?;
     }
@@ -102,6 +113,7 @@ fn push_entry<B: Book>(
     alloc: Global,
     page: &mut Page,
     book: &B,
+    taken: &[u32],
     place: usize,
     entry: Entry,
 ) -> Result<(), AllocError> {
@@ -113,7 +125,7 @@ fn push_entry<B: Book>(
         page.column(told.by.as_bytes(), 8)?;
     }
     page.text(step_word(entry.step))?;
-    if let Some(leaf) = leaf_of_entry(book, entry) {
+    if let Some(leaf) = leaf_of_entry(taken, entry) {
         page.text(" ")?;
         page.bytes(&label_of(alloc, book, leaf)?)?;
     }
@@ -130,6 +142,7 @@ fn push_entry_object<B: Book>(
     alloc: Global,
     page: &mut Page,
     book: &B,
+    taken: &[u32],
     place: usize,
     entry: Entry,
 ) -> Result<(), AllocError> {
@@ -143,7 +156,7 @@ fn push_entry_object<B: Book>(
     }
     page.member("did")?;
     page.quoted(step_word(entry.step).as_bytes())?;
-    if let Some(leaf) = leaf_of_entry(book, entry) {
+    if let Some(leaf) = leaf_of_entry(taken, entry) {
         page.member("task")?;
         page.quoted(&label_of(alloc, book, leaf)?)?;
     }

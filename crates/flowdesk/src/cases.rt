@@ -306,8 +306,16 @@ pub(crate) fn make<R: Files<File = File> + Env + Clock + AllocGlobal + Print + E
         None => None,
     };
     match &policy {
-        Some(policy) => make_governed(rt, case, &workflow, policy),
+        Some(policy) => make_governed(rt, case, &workflow, without_divider(policy)),
         None => make_free(rt, case, &workflow),
+    }
+}
+
+/// The text behind its first line, where that is `%%`: so a policy stands for `flow duty`.
+fn without_divider(text: &[u8]) -> &[u8] {
+    match text {
+        [b'%', b'%', b'\n', rest @ ..] => rest,
+        _ => text,
     }
 }
 
