@@ -32,7 +32,7 @@ impl Core {
     }
 
     /// Whether the journal is a whole execution.
-    pub(crate) fn is_complete(&self) -> bool
+    pub fn is_complete(&self) -> bool
         ensures { IsTrue result ↔ IsGood (schema self.now) (now self.now).journal }
     {
         self.residual.is_complete()

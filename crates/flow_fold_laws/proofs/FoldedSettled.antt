@@ -1,7 +1,7 @@
 -- A goal is finished, and it is the turn of a leaf, by the leaves that are settled: done, or in a choice that is finished.
 use Rattle.std.proofs.Common.{ℕ, ◌++◌, ◌⊎◌, IsTrue, refl, sym, subst, inl, inr, ⊎_elim}
 use Rattle.flow_model.specs.Lists.{◌∈◌, AreDistinct}
-use Rattle.flow_model.specs.Process.{Process, Empty, Task, Sequence, Parallel, Choice, Isolated, leaves, IsChoiceFree}
+use Rattle.flow_model.specs.Process.{Process, Empty, Task, Sequence, Parallel, Choice, Isolated, leaves}
 use Rattle.flow_model.specs.Ready.{InSequence}
 use Rattle.flow_model.specs.Folding.{IsFolded}
 use Rattle.flow_model.specs.FoldedReady.{IsFinished, IsClosedOff, IsItsTurn}

@@ -1,3 +1,4 @@
+pub mod NamedEvents
 pub mod Unfoldings
 pub mod UnfoldedWays
 pub mod UnfoldedOptions

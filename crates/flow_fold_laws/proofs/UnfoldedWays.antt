@@ -15,7 +15,7 @@ use Rattle.flow_model.proofs.MadeLists.{found_none, none_passes}
 use Rattle.flow_laws.specs.Resolutions.{Resolves}
 use Rattle.flow_laws.proofs.ResolutionsLemmas.{mem-leaves_of_goal, choice_free_resolution}
 use Rattle.flow_laws.proofs.FoldingLemmas.{FoldsTo, may_stay}
-use Rattle.flow_laws.proofs.NamedEvents.{events_of_normal_form, same_ways, named_leaf}
+use Rattle.flow_fold_laws.proofs.NamedEvents.{events_of_normal_form, same_ways, named_leaf}
 
 -- The leaf of a named event
 

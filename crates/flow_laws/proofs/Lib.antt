@@ -4,7 +4,6 @@ pub mod TraceLeaves
 pub mod ResolutionsLemmas
 pub mod FoldingLemmas
 pub mod WaysLemmas
-pub mod NamedEvents
 pub mod OptionsLemmas
 pub mod EventsLemmas
 pub mod GoalParts

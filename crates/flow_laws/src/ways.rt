@@ -1,8 +1,7 @@
-ghost use Rattle.std.specs.Prelude.{◌≡◌, ℕ, Bool, true, List, ◌↔◌, filter};
+ghost use Rattle.std.specs.Prelude.{ℕ, List, ◌↔◌};
 ghost use Rattle.flow_model.specs.declared.labels.Label.{Label};
 ghost use Rattle.flow_model.specs.Lists.{◌∈◌, AreDistinct, AreInOrder};
-ghost use Rattle.flow_model.specs.Facts.{event_at, events_of};
-ghost use Rattle.flow_model.specs.Folding.{is_among, named_events};
+ghost use Rattle.flow_model.specs.Facts.{events_of};
 ghost use Rattle.flow_model.specs.Constraint.{Constraint, Meets};
 ghost use Rattle.flow_model.specs.Ways.{ways_of};
 ghost use Rattle.flow_model.specs.Schema.{Schema, IsGood};
@@ -15,14 +14,6 @@ pub fn law_ways_decide_constraints()
     ensures { (c : Constraint) (labels : List Label) (t ls : List ℕ) → AreDistinct (events_of labels t) →
         AreDistinct ls → ((n : ℕ) → (n ∈ t) ↔ (n ∈ ls)) → Meets c (events_of labels t)
         ↔ ((way : List (ℕ × ℕ)) × (way ∈ ways_of c labels ls) × AreInOrder way t) }
-{}
-
-/// The ways of a constraint over some leaves are those over the ones among them whose event it names, and so where others
-/// are kept besides.
-pub fn law_named_leaves_have_the_ways()
-    ensures { (c : Constraint) (labels : List Label) (kept : ℕ → Bool) →
-        ((n : ℕ) → is_among (named_events c) (event_at labels n) ≡ true → kept n ≡ true) →
-        (ls : List ℕ) → ways_of c labels (filter kept ls) ≡ ways_of c labels ls }
 {}
 
 /// The executions that meet every constraint are those of the options.

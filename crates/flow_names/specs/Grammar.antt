@@ -1,6 +1,7 @@
 -- What the words of a line ask for.
-use Rattle.std.specs.Prelude.{◌≡◌, ℕ, ◌+◌, ◌-◌, ◌==◌, ◌&&◌, nat_le, if◌then◌else◌, Bool, List, [], ◌∷◌, ◌++◌, length, take, drop, slice_index, Option, Some, None, Result, Ok, Err}
+use Rattle.std.specs.Prelude.{◌≡◌, ℕ, ◌+◌, ◌-◌, ◌==◌, ◌&&◌, nat_le, if◌then◌else◌, Bool, List, [], ◌∷◌, ◌++◌, length, take, drop, slice_index, codes, Option, Some, None, Result, Ok, Err}
 use Rattle.std.specs.List.{position}
+use Rattle.std.specs.Str.{bytes_eq}
 use Rattle.flow_record.specs.Number.{number_of}
 use Rattle.flow_names.specs.declared.command.Command.{Command}
 use Rattle.flow_names.specs.declared.command.Command.TheVariants as command
@@ -74,6 +75,15 @@ unquoted text = if is_quoted text (length text) then take (length text - 2) (dro
 abbrev pub label_in : List ℕ → List ℕ → List ℕ
 label_in first second = unquoted (first ++ 32 ∷ second)
 
+-- what is asked for behind `undone`: what was taken back; or that a claim is ticked off, which is said by `--ok`
+abbrev pub undone_of : List (List ℕ) → Result Command CommandRefusal
+undone_of [] = Ok command.Undone
+undone_of (word ∷ words) = ticked (one_word verb.Undone words)
+  where
+    ticked : Result (List ℕ) CommandRefusal → Result Command CommandRefusal
+    ticked (Ok mark) = if bytes_eq mark (codes "--ok") then with command.TickOff (claim_in word) else Err (refusal.Behind verb.Undone)
+    ticked (Err e) = Err e
+
 -- a leaf that is no event: its number, or its label in one or two words, which may stand in quotes
 abbrev pub step_of : List (List ℕ) → Result StepRef CommandRefusal
 step_of [] = Err (refusal.Missing verb.Do)
@@ -97,7 +107,7 @@ said_with verb.Commit words = no_word verb.Commit command.Commit words
 said_with verb.Tidy words = no_word verb.Tidy command.Tidy words
 said_with verb.Todo words = no_word verb.Todo command.Todo words
 said_with verb.History words = no_word verb.History command.History words
-said_with verb.Undone words = no_word verb.Undone command.Undone words
+said_with verb.Undone words = undone_of words
 said_with verb.Facts words = no_word verb.Facts command.Facts words
 said_with verb.Report words = no_word verb.Report command.Report words
 

@@ -155,6 +155,7 @@ Means r command.Todo None = Unit {0}
 Means r (command.Why task) None = Unit {0}
 Means r command.History None = Unit {0}
 Means r command.Undone None = Unit {0}
+Means r (command.TickOff claim) None = Unit {0}
 Means r command.Facts None = Unit {0}
 Means r command.Report None = Unit {0}
 Means r other meant = ⊥

@@ -25,6 +25,8 @@ pub enum Command {
     History,
     /// What was taken back, and is to be undone outside.
     Undone,
+    /// What was taken back by a step back is undone outside.
+    TickOff(ClaimRef),
     /// The facts that hold.
     Facts,
     /// All that the run came to.

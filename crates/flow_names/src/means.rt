@@ -15,8 +15,8 @@ use flow_facts::Name;
 use flow_fault::is_near;
 use std::alloc::Global;
 
-/// What a command asks of the run. A command that only shows something asks nothing, and so does `tidy`, whose steps are found by
-/// asking a scout.
+/// What a command asks of the run. A command that only shows something asks nothing, and so do `tidy`, whose steps are found by
+/// asking a scout, and a tick behind `undone`, of which the run knows nothing.
 pub fn meaning(alloc: Global, core: &Core, command: &Command) -> Result<Option<Ask>, NameRefusal>
     ensures meant { IfOk result (Means core.now command.now) }
     ensures refused { IfErr result (MeansNone core.now command.now) }

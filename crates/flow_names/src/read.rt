@@ -1,7 +1,7 @@
 ghost use Rattle.std.specs.Prelude.{◌≡◌, ◌<◌, ◌==◌, length, Ok, Err, IfOk, IfErr, IfSome, MatchResult};
 ghost use Rattle.std.specs.List.{position};
 ghost use Rattle.flow_record.specs.Words.{words_of};
-ghost use Rattle.flow_names.specs.Grammar.{IsRefusedFor, said_by, said_with, one_word, no_word, task_in, task_at, claim_in, step_of, label_in, unquoted};
+ghost use Rattle.flow_names.specs.Grammar.{IsRefusedFor, said_by, said_with, one_word, no_word, task_in, task_at, claim_in, undone_of, step_of, label_in, unquoted};
 
 use crate::command::{ClaimRef, Command, StepRef, TaskRef};
 use crate::number::read_number;
@@ -44,7 +44,7 @@ fn command_of(alloc: Global, verb: Verb, rest: &[u8]) -> Result<Command, Command
         Verb::Tidy => no_word(verb, Command::Tidy, rest),
         Verb::Todo => no_word(verb, Command::Todo, rest),
         Verb::History => no_word(verb, Command::History, rest),
-        Verb::Undone => no_word(verb, Command::Undone, rest),
+        Verb::Undone => undone_of(alloc, rest),
         Verb::Facts => no_word(verb, Command::Facts, rest),
         Verb::Report => no_word(verb, Command::Report, rest),
     }
@@ -121,6 +121,22 @@ fn claim_in(alloc: Global, word: &[u8]) -> Result<ClaimRef, CommandRefusal>
         Some(number) => Ok(ClaimRef::Number(number)),
         None => Ok(ClaimRef::Of(task_in(alloc, word)?)),
     }
+}
+
+/// What the words behind `undone` ask for: nothing, or a claim that is ticked off by `--ok` behind it.
+fn undone_of(alloc: Global, rest: &[u8]) -> Result<Command, CommandRefusal>
+    ensures ok { IfOk result (λ command. undone_of (words_of rest.now) ≡ Ok command) }
+    ensures refused { IfErr result (IsRefusedFor (undone_of (words_of rest.now))) }
+{
+    let (word, behind) = split_word(rest);
+    if word.is_empty() {
+        return Ok(Command::Undone);
+    }
+    let mark = one_word(Verb::Undone, behind)?;
+    if mark != b"--ok".as_slice() {
+        return Err(CommandRefusal::Behind { verb: Verb::Undone });
+    }
+    Ok(Command::TickOff(claim_in(alloc, word)?))
 }
 
 /// The leaf that the words say: its number, or its label in one or two words, which may stand in quotes.

@@ -1,13 +1,13 @@
--- The events that a constraint names: its normal form asks for no others, so its ways go by the leaves of those alone.
-use Rattle.std.proofs.Common.{◌≡◌, ℕ, Bool, true, false, ◌==◌, ◌||◌, if◌then◌else◌, List, [], ◌∷◌, ◌++◌, Option, Some, find, filter, refl, sym, ap, subst, true≢false}
+-- The events that a constraint names: its normal form asks for no others.
+use Rattle.std.proofs.Common.{◌≡◌, ℕ, true, false, ◌==◌, ◌||◌, if◌then◌else◌, List, [], ◌∷◌, ◌++◌, Option, refl, sym, ap, subst}
 use Rattle.std.proofs.lemmas.Bool.{eq-eqb}
 use Rattle.flow_model.specs.declared.labels.Label.{Label}
 use Rattle.flow_model.specs.Lists.{◌∈◌, Each, each_with_each}
 use Rattle.flow_model.specs.Facts.{event_at, is_event}
 use Rattle.flow_model.specs.Constraint.{Constraint, Always, Impossible, Must, Never, Order, Not, And, Or}
-use Rattle.flow_model.specs.Ways.{Normal, always, impossible, must, never, before, not_before, both, either, chain, broken_chain, normal_form, ways, ways_of, leaf_of_event, free_way, is_free, ways_of_must, ways_of_never, ways_of_before, ways_of_not_before}
+use Rattle.flow_model.specs.Ways.{Normal, always, impossible, must, never, before, not_before, both, either, chain, broken_chain, normal_form, ways, free_way, is_free, ways_of_must, ways_of_never, ways_of_before, ways_of_not_before}
 use Rattle.flow_model.specs.Folding.{named_events, is_among}
-use Rattle.flow_model.proofs.Lists.{each_parts, each_from_members}
+use Rattle.flow_model.proofs.Lists.{each_parts}
 use Rattle.flow_model.proofs.MadeLists.{some_passes}
 use Rattle.flow_laws.proofs.WaysLemmas.{event_from_test}
 
@@ -66,26 +66,3 @@ pub named_leaf : (c : Constraint) (labels : List Label) (e n : ℕ) → e ∈ na
     is_among (named_events c) (event_at labels n) ≡ true
 named_leaf c labels e n m t = subst (λ o. is_among (named_events c) o ≡ true) (sym (event_from_test e (event_at labels n) t))
     (some_passes (λ x. x == e) e (named_events c) m (eq-eqb e e refl))
-
--- what is found where all that passes is kept
-find-filter : (p kept : ℕ → Bool) → ((n : ℕ) → p n ≡ true → kept n ≡ true) → (ls : List ℕ) → find p (filter kept ls) ≡ find p ls
-find-filter p kept keeps [] = refl
-find-filter p kept keeps (n ∷ ls) = first (kept n) (keeps n) (find-filter p kept keeps ls)
-  where
-    left_out : (passes : Bool) → (passes ≡ true → false ≡ true) → find p (filter kept ls) ≡ find p ls →
-        find p (filter kept ls) ≡ (if passes then Some n else find p ls)
-    left_out true h e = absurd (true≢false (sym (h refl)))
-    left_out false h e = e
-
-    first : (keep : Bool) → (p n ≡ true → keep ≡ true) → find p (filter kept ls) ≡ find p ls →
-        find p (if keep then n ∷ filter kept ls else filter kept ls) ≡ (if p n then Some n else find p ls)
-    first true h e = ap (λ o. if p n then Some n else o) e
-    first false h e = left_out (p n) h e
-
--- the leaves of the events that a constraint names suffice for its ways
-pub ways_of_kept : (c : Constraint) (labels : List Label) (kept : ℕ → Bool) → ((n : ℕ) → is_among (named_events c) (event_at labels n) ≡ true → kept n ≡ true) →
-    (ls : List ℕ) → ways_of c labels (filter kept ls) ≡ ways_of c labels ls
-ways_of_kept c labels kept keeps ls =
-    same_ways (leaf_of_event labels (filter kept ls)) (leaf_of_event labels ls) (normal_form c true)
-    (events_of_normal_form (λ e. leaf_of_event labels (filter kept ls) e ≡ leaf_of_event labels ls e) c (each_from_members _ (named_events c)
-    (λ e m. find-filter (λ n. is_event e (event_at labels n)) kept (λ n t. keeps n (named_leaf c labels e n m t)) ls))).0
