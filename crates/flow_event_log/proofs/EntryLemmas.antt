@@ -18,10 +18,10 @@ found_at [] i e below is = absurd (omega (arith, below))
 found_at (x ∷ xs) zero e below is = ap (λ (y : Entry). Some (text_of y)) (sym is)
 found_at (x ∷ xs) (suc i) e below is = found_at xs i e (omega (arith, below)) is
 
-pub older_below : (buckets : ℕ) (newest older : List ℕ) (names : List (List ℕ)) → IsLinked buckets newest older names → (number link : ℕ) → number < length names →
+pub older_below : (in_bucket : ℕ → List ℕ → ℕ) (buckets : ℕ) (newest older : List ℕ) (names : List (List ℕ)) → IsLinked in_bucket buckets newest older names → (number link : ℕ) → number < length names →
     slice_index older number ≡ link → link ≤ number
-older_below buckets newest older names linked number zero there is = omega arith
-older_below buckets newest older names linked number (suc k) there is =
+older_below in_bucket buckets newest older names linked number zero there is = omega arith
+older_below in_bucket buckets newest older names linked number (suc k) there is =
     let before = linked.older_in number k there (is_one_more) in omega (arith, before.0)
   where
     is_one_more : slice_index older number ≡ k + 1

@@ -3,6 +3,7 @@ ghost use Rattle.flow_event_log.specs.Numbers.{IsNumberedIn};
 ghost use Rattle.flow_event_log.specs.Rows.{AreNumbered};
 
 use crate::names::Names;
+use crate::names_key::NamesKey;
 use std::alloc::{AllocError, Global};
 
 /// What was done in a case: numbers of the log's cases and activities, and the line of the file, from 1.
@@ -51,9 +52,16 @@ impl EventLog {
     pub fn new(alloc: Global) -> Result<EventLog, AllocError>
         ensures { IfOk result (λ log. rows_in log ≡ []) }
     {
+        EventLog::with_key(alloc, NamesKey::new(0, 0))
+    }
+
+    /// A log of no event. Its names are hashed by that key.
+    pub fn with_key(alloc: Global, key: NamesKey) -> Result<EventLog, AllocError>
+        ensures { IfOk result (λ log. rows_in log ≡ []) }
+    {
         Ok(EventLog {
-            cases: Names::new(alloc, CASE_BUCKETS)?,
-            activities: Names::new(alloc, ACTIVITY_BUCKETS)?,
+            cases: Names::with_key(alloc, key, CASE_BUCKETS)?,
+            activities: Names::with_key(alloc, key, ACTIVITY_BUCKETS)?,
             events: Vec::new(alloc),
         })
     }

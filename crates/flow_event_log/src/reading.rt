@@ -1,6 +1,7 @@
 use crate::columns::{Columns, Wanted};
 use crate::event_log::{EventLog, places_by_time};
 use crate::fault::{LogFault, LogRefusal};
+use crate::names_key::NamesKey;
 use crate::timeline::{TimeFault, Timeline};
 use csv::{ByteRecord, Reader, ReaderBuilder};
 use std::alloc::Global;
@@ -98,10 +99,10 @@ fn names_in(alloc: Global, record: &ByteRecord) -> Result<Vec<Vec<u8>>, LogFault
     Ok(names)
 }
 
-/// The line at which a record began.
-fn line_of(record: &ByteRecord) -> u64 {
+/// The line at which a record began. Where lines end in CR LF, the reader has not counted the LF before it.
+fn line_of(record: &ByteRecord, uncounted: u64) -> u64 {
     match record.position() {
-        Some(position) => position.line,
+        Some(position) => position.line.saturating_add(uncounted),
         None => 0,
     }
 }
@@ -112,11 +113,12 @@ impl Reading {
         alloc: Global,
         record: &ByteRecord,
         wanted: &Wanted<'_>,
+        key: NamesKey,
     ) -> Result<Reading, LogFault> {
         let header = names_in(alloc, record)?;
         match Columns::of(record, wanted) {
             Ok(columns) => Ok(Reading {
-                log: EventLog::new(alloc)?,
+                log: EventLog::with_key(alloc, key)?,
                 columns,
                 header,
                 bad_rows: Vec::new(alloc),
@@ -137,8 +139,13 @@ impl Reading {
     }
 
     /// Takes a row in, or leaves it out where it is bad.
-    fn take(&mut self, record: &ByteRecord, timeline: &mut Timeline) -> Result<(), LogFault> {
-        let line = line_of(record);
+    fn take(
+        &mut self,
+        record: &ByteRecord,
+        timeline: &mut Timeline,
+        uncounted: u64,
+    ) -> Result<(), LogFault> {
+        let line = line_of(record, uncounted);
         let row = match row_in(record, &self.columns) {
             Ok(row) => row,
             Err(flaw) => return self.leave_out(line, flaw),
@@ -165,10 +172,11 @@ fn take_rows<R: Read + Drop>(
     record: &mut ByteRecord,
     reading: &mut Reading,
     timeline: &mut Timeline,
+    uncounted: u64,
 ) -> Result<(), LogFault> {
     for _row in 0..u64::MAX {
         match reader.read_byte_record(record) {
-            Ok(true) => reading.take(record, timeline)?,
+            Ok(true) => reading.take(record, timeline, uncounted)?,
             Ok(false) => break,
             Err(error) => return Err(LogFault::from(error)),
         }
@@ -182,6 +190,16 @@ pub fn read_log<R: Read + Drop>(
     source: R,
     wanted: &Wanted<'_>,
 ) -> Result<Reading, LogFault> {
+    read_log_with_key(alloc, source, wanted, NamesKey::new(0, 0))
+}
+
+/// The same, for a log of strangers: these are not to know the key, by which names are hashed.
+pub fn read_log_with_key<R: Read + Drop>(
+    alloc: Global,
+    source: R,
+    wanted: &Wanted<'_>,
+    key: NamesKey,
+) -> Result<Reading, LogFault> {
     let mut reader = ReaderBuilder::new()
         .has_headers(false)
         .flexible(true)
@@ -192,9 +210,16 @@ pub fn read_log<R: Read + Drop>(
         Ok(false) => return Err(LogFault::Refused(LogRefusal::Empty)),
         Err(error) => return Err(LogFault::from(error)),
     }
-    let mut reading = Reading::of_header(alloc, &record, wanted)?;
+    let mut reading = Reading::of_header(alloc, &record, wanted, key)?;
     let mut timeline = Timeline::new(alloc);
-    take_rows(&mut reader, &mut record, &mut reading, &mut timeline)?;
+    let uncounted = if reader.position().line < 2 { 1 } else { 0 };
+    take_rows(
+        &mut reader,
+        &mut record,
+        &mut reading,
+        &mut timeline,
+        uncounted,
+    )?;
     if !timeline.is_in_order() {
         let places = places_by_time(alloc, timeline.times())?;
         drop(timeline);

@@ -1,6 +1,7 @@
 ghost use Rattle.std.specs.Prelude.{◌≡◌, ◌<◌, ◌≤◌, ◌+◌, ◌-◌, ◌∷◌, ◌++◌, [], ℕ, List, Some, length, reverse, slice_get, IfOk, OnOk, OnErr, IfSome, IsTrue};
 ghost use Rattle.flow_event_log.specs.Reached.{AreOlder, IsReached, IsStepAt};
 
+use crate::names_key::NamesKey;
 use std::alloc::{AllocError, Global};
 use std::collections::HashMap;
 
@@ -17,18 +18,21 @@ pub(crate) struct Sequences {
     /// Of each sequence but the empty one its last event, and the sequence without it.
     steps: Vec<Step>,
     /// Where a step is looked for. What is found here is looked at again.
-    numbers: HashMap<Step, u32>,
+    numbers: HashMap<Step, u32, NamesKey>,
+    /// Of each sequence the one that came of it last; 0 where there is none. It is looked at again too.
+    latest: Vec<u32>,
     ghost older: { AreOlder steps.items },
 }
 
 impl Sequences {
     /// The empty sequence alone.
-    pub(crate) fn new(alloc: Global) -> Sequences
+    pub(crate) fn new(alloc: Global, key: NamesKey) -> Sequences
         ensures { result.steps.items ≡ [] }
     {
         Sequences {
             steps: Vec::new(alloc),
-            numbers: HashMap::new(alloc),
+            numbers: HashMap::with_hasher(alloc, key),
+            latest: Vec::new(alloc),
         }
     }
 
@@ -47,11 +51,60 @@ impl Sequences {
         ensures bound { IfOk result (λ number. number ≤ length self.new.steps.items) }
         ensures more { length self.old.steps.items ≤ length self.new.steps.items }
     {
+        if let Some(number) = self.recall(before, event) {
+            return Ok(number);
+        }
+        let number = self.find_or_add(before, event)?;
+        self.keep(before, number);
+        Ok(number)
+    }
+
+    /// The number of a sequence with one event more, which is added now if it is not there.
+    fn find_or_add(&mut self, before: u32, event: u32) -> Result<u32, AllocError>
+        requires { before ≤ length self.old.steps.items }
+        ensures reached { IfOk result (λ number. (events : List ℕ) → IsReached self.old.steps.items before events → IsReached self.new.steps.items number (event ∷ events)) }
+        ensures kept { (number : ℕ) (events : List ℕ) → IsReached self.old.steps.items number events → IsReached self.new.steps.items number events }
+        ensures bound { IfOk result (λ number. number ≤ length self.new.steps.items) }
+        ensures more { length self.old.steps.items ≤ length self.new.steps.items }
+    {
         if let Some(number) = self.find(before, event) {
             return Ok(number);
         }
         let number = self.add(before, event)?;
         Ok(number)
+    }
+
+    /// The number, if it is that of a sequence with one event more.
+    fn checked(&self, number: u32, before: u32, event: u32) -> Option<u32>
+        ensures { IfSome result (λ number. IsStepAt self.now.steps.items number before event) }
+    {
+        if number == 0 {
+            return None;
+        }
+        match self.steps.get((number - 1) as usize) {
+            Some(step) if step.before == before && step.event == event => Some(number),
+            _ => None,
+        }
+    }
+
+    /// The number of a sequence with one event more, if it is the one that came last.
+    fn recall(&self, before: u32, event: u32) -> Option<u32>
+        ensures { IfSome result (λ number. IsStepAt self.now.steps.items number before event) }
+    {
+        let number = match self.latest.get(before as usize) {
+            Some(number) => *number,
+            None => return None,
+        };
+        self.checked(number, before, event)
+    }
+
+    /// Keeps that this sequence came last of the one that is an event shorter.
+    fn keep(&mut self, before: u32, number: u32)
+        ensures { self.new.steps.items ≡ self.old.steps.items }
+    {
+        if let Some(latest) = self.latest.get_mut(before as usize) {
+            *latest = number;
+        }
     }
 
     /// The number of a sequence with one event more, if there is one.
@@ -62,13 +115,7 @@ impl Sequences {
             Some(number) => *number,
             None => return None,
         };
-        if number == 0 {
-            return None;
-        }
-        match self.steps.get((number - 1) as usize) {
-            Some(step) if step.before == before && step.event == event => Some(number),
-            _ => None,
-        }
+        self.checked(number, before, event)
     }
 
     /// Adds a sequence with one event more.
@@ -85,6 +132,7 @@ impl Sequences {
             return Err(AllocError);
         };
         let step = Step { before, event };
+        self.latest.push(0)?;
         self.numbers.insert(step, number)?;
         self.steps.push(step)?;
         Ok(number)

@@ -1,6 +1,6 @@
 use Rattle.std.proofs.Common.{refl}
 use Rattle.flow_event_log.proofs.ReachedLemmas.{kept_more, reached_last}
-use Rattle.flow_event_log.proofs.sequences.Sequences.longer.Goals as goal
+use Rattle.flow_event_log.proofs.sequences.Sequences.find_or_add.Goals as goal
 
 pub returns-clause-reached : goal.returns-clause-reached
 returns-clause-reached c =
