@@ -1,7 +1,7 @@
 #!/usr/bin/env python3
 """The library for C and Python beside the program.
 
-Usage: bench/library.py [PART ..] [--calls COUNT] [--seed SEED]     PART: rows, damaged, walks, threads, examples, times; without one all
+Usage: bench/library.py [PART ..] [--calls COUNT] [--seed SEED]     PART: rows, damaged, walks, threads, times; without one all
 
 rows      every row of the gate (crates/test_cases/data) of a mode that the library has, through C and through Python: the bytes and the
           status that the row wants, which are the program's.
@@ -10,9 +10,8 @@ damaged   calls of both kinds with texts, policies, histories and lines that are
 walks     cases that are stepped at random, good lines among bad ones, each record stored as it comes: no history is ever refused, each
           journal is an execution or the front of one by `trace`, and the whole is what `drive` and `duty` report of the same lines.
 threads   the same calls by four threads at once, from C and from Python.
-examples  what the README for Python shows runs; examples/c/step.c drives a case as Python does; the tests of bindings/rust pass, where
-          cargo is.
-times     the processor's microseconds of a step of the order desk, with 0 to 60 entries, from C and from Python.
+times     the processor's microseconds of a step of the order desk, with 0 to 60 entries, from C, from Python, and by a process that makes
+          this one step (examples/c/step.c). They take turns, and each figure is the least of nine runs.
 
 --calls sets how many damaged calls are made (20,000; a tenth as many under the sanitizer besides). Needs ./prove flow_c and gcc. The
 script ends with 1 where something is not as it must be.
@@ -22,9 +21,6 @@ import json
 import os
 import pathlib
 import random
-import re
-import shutil
-import struct
 import subprocess
 import sys
 import tempfile
@@ -32,121 +28,25 @@ import time
 from collections import Counter
 from concurrent.futures import ThreadPoolExecutor
 
-from measuring import TOP
+from gate_rows import rows
+from library_calls import MADE, WRONG, built, made_by, wrong
+from measuring import TOP, keep_results
 
 sys.path.insert(0, str(TOP / "bindings/python"))
 from flow import CallRefused, Case, StepRefused, Workflow  # noqa: E402
 from flow.library import Mode, Status, answer, step  # noqa: E402
 
-MADE = TOP / "crates/flow_c/out"
 MODES = {mode.name.lower(): mode for mode in Mode}
 ROOM = 2_000_000
-WRONG = []
-# the names of what the README shows, block after block
-README = {}
 SHOP = "event pack, card, bill; goal pack | (card + bill); constraint precedes pack bill;\n"
 FOUR_EYES = "event a, b, c; goal a * (b | c);\n"
 POLICY = "role clerk = ann, bob; role lead = cid, ann; allow clerk a, b; allow lead c; separate a b; bind a c;\n"
 
 
-def wrong(what):
-    WRONG.append(what)
-    print("WRONG", what[:600])
-
-
-# --- calls from C
-
-def built(folder, *flags):
-    """The harness, linked with the archive."""
-    made = f"{folder}/{'sanitized' if flags else 'plain'}"
-    compiler = ["gcc", "-g", "-O1", "-Wall", "-Wextra", *flags, f"-I{TOP}/include"]
-    subprocess.run([*compiler, "-o", made, TOP / "bench/library.c", MADE / "libflow.a", "-pthread"], check=True)
-    return made
-
-
-def packed(which, number, steps, parts, room):
-    parts = [*parts, b"", b"", b""][:4]
-    return struct.pack("8I", which, number, steps, *map(len, parts), room) + b"".join(parts)
-
-
-def made_by(harness, calls, *words):
-    """What came of the calls: status, length, microseconds and the answer of each."""
-    ran = subprocess.run([harness, *map(str, words)], input=b"".join(packed(*call) for call in calls), capture_output=True, check=False)
-    if ran.returncode or ran.stderr:
-        wrong(f"{pathlib.Path(harness).name} ends with {ran.returncode}: {ran.stderr.decode(errors='replace')[-2000:]}")
-    came, place = [], 0
-    while place < len(ran.stdout):
-        status, length, spent = struct.unpack_from("2If", ran.stdout, place)
-        place += 12
-        written = 0 if status == Status.NO_ROOM else length
-        came.append((status, length, spent, ran.stdout[place : place + written]))
-        place += written
-    if len(came) != len(calls):
-        wrong(f"{len(came)} of {len(calls)} calls came back")
-    return came
-
-
 # --- rows of the gate
 
-def bytes_of(lines):
-    """The bytes of a part of a row; None where it has names that fall together, which are not made here."""
-    text = bytearray()
-    for line in lines:
-        first, *pieces = line.split("\\")
-        text += first.encode()
-        for piece in pieces:
-            if not put_escape(text, piece):
-                return None
-        if not line.endswith("\\"):
-            text += b"\n"
-    return bytes(text)
-
-
-def put_escape(text, piece):
-    """What crates/test_cases/src/pieces.rt says of a piece behind a backslash."""
-    if not piece:
-        return True
-    kind, rest = piece[0], piece[1:]
-    if kind == "r":
-        text += b"\r" + rest.encode()
-    elif kind == "x":
-        digits, after = rest.split(" ", 1)
-        text += bytes([int(digits, 16)]) + after.encode()
-    elif kind == "*":
-        count, digits, after = rest.split(" ", 2)
-        text += bytes([int(digits, 16)]) * int(count) + after.encode()
-    elif kind == "{":
-        series, after = rest.split("}", 1)
-        numbers, between, member = series.split("`", 2)
-        low, high = map(int, numbers.split(".."))
-        one = [member.replace("#", "\0").replace("@", str(n + 1)).replace("~", "\n").replace("\0", str(n)) for n in range(low, high)]
-        text += between.replace("~", "\n").join(one).encode() + after.encode()
-    else:
-        return False
-    return True
-
-
-def rows():
-    """Rows of modes that the library has: name, mode, steps, input, status, output."""
-    for path in sorted((TOP / "crates/test_cases/data").glob("*.rows")):
-        for row in re.split(r"^=== ", path.read_text(), flags=re.M)[1:]:
-            name, words, ending, *lines = row.rstrip("\n").split("\n")
-            call = re.fullmatch(r"flow (\w+)(?: --steps (\d+))?", words)
-            if not call or call[1] not in MODES:
-                continue
-            parts = [[]]
-            for line in lines:
-                parts.append([]) if line == "---" else parts[-1].append(line)
-            given, wanted = bytes_of(parts[0]), bytes_of(parts[1])
-            if given is None or wanted is None or len(ending.split()) == 2:
-                continue
-            status = int(ending.split()[0])
-            # wrong words are told by the status alone: how the program is called is nothing to a library
-            yield f"{path.name}: {name}", MODES[call[1]], int(call[2] or 65536), given, status, wanted if status != Status.CALL else b""
-
-
 def try_rows(harness):
-    found = list(rows())
+    found = list(rows(MODES))
     came = made_by(harness, [(0, mode, steps, [given], ROOM) for _, mode, steps, given, _, _ in found])
     for (name, mode, steps, given, status, wanted), (c_status, _, _, c_text) in zip(found, came):
         if (c_status, c_text) != (status, wanted):
@@ -215,7 +115,7 @@ def damaged_calls(rng, count):
         for _ in range(6):
             case, said = walked(workflow, rng, 30)
             seeds.append((workflow, case.history, said))
-    sources = [given for _, _, _, given, _, _ in rows() if len(given) < 2000]
+    sources = [given for _, _, _, given, _, _ in rows(MODES) if len(given) < 2000]
     for _ in range(count):
         room = rng.choice([0, 1, rng.randrange(200), rng.randrange(2000), 20_000])
         if rng.random() < 0.3:
@@ -282,61 +182,25 @@ def try_walks(rng, count):
 
 # --- threads and times
 
-# --- examples
-
-def try_examples(folder):
-    for block in re.findall(r"^```python\n(.*?)^```", (TOP / "bindings/python/README.md").read_text(), flags=re.M | re.S):
-        try:
-            exec(block, README)  # pylint: disable=exec-used
-        except Exception as error:  # pylint: disable=broad-except
-            wrong(f"the README for Python: {type(error).__name__} {error}: {block}")
-    (pathlib.Path(folder) / "shop.flow").write_text(SHOP)
-    made = f"{folder}/step"
-    subprocess.run(["gcc", "-Wall", "-Wextra", f"-I{TOP}/include", "-o", made, TOP / "examples/c/step.c", MADE / "libflow.a"], check=True)
-    case = Case(Workflow(SHOP))
-    lines = ["take 0", "take 1", "fail 2", "take 2", "done 1", "take 2", "done 3", "done 3", "facts", "commit", "next"]
-    for line in lines:
-        ran = subprocess.run([made, f"{folder}/shop.flow", f"{folder}/history", "0", *line.split()], capture_output=True, check=False)
-        try:
-            wanted = (0, case.give(line).reply)
-        except StepRefused as refused:
-            wanted = (1, refused.reply)
-        if (ran.returncode, json.loads(ran.stdout)["reply"]) != wanted:
-            wrong(f"examples/c/step.c: {line}: {ran.stdout}, not {wanted}")
-    if (pathlib.Path(folder) / "history").read_bytes() != case.history:
-        wrong("examples/c/step.c: the history")
-    told = "no cargo is there"
-    if shutil.which("cargo"):
-        apart = {**os.environ, "CARGO_TARGET_DIR": f"{folder}/target"}
-        ran = subprocess.run(["cargo", "test", "--offline", "--quiet"], cwd=TOP / "bindings/rust", env=apart, capture_output=True, check=False)
-        told = "tests of Rust"
-        if ran.returncode:
-            wrong(f"bindings/rust: {ran.stdout.decode()[-800:]} {ran.stderr.decode()[-800:]}")
-    print(f"examples: the README for Python, {len(lines)} lines in C, {told}")
+def next_line(case):
+    """What is to be done next in a case, as a line."""
+    what, *number = case.next().split()
+    if what == "act":
+        label = case.workflow.labels[int(number[0])]
+        return f"{'take' if label.isidentifier() else 'do'} {number[0]}"
+    return f"done {number[0]}" if what == "wait" else "commit"
 
 
 def order_desk(entries):
-    """A case of the order desk that has come so far, in which the first task failed six times."""
+    """A case of the order desk with so many entries, of which the first ten tasks failed."""
     case = Case(texts()[3])
-    while case.entries < min(entries, 12):
-        case.fail(case.take(0).claim)
     while case.entries < entries:
-        what, *number = case.next().split()
-        if what == "act":
-            try:
-                case.take(int(number[0]))
-            except StepRefused:
-                case.do(int(number[0]))
-        elif what == "wait":
-            case.done(int(number[0]))
-        else:
-            case.commit()
-            break
+        case.give(f"fail {case.entries // 2 + 1}" if case.entries % 2 and case.entries < 20 else next_line(case))
     return case
 
 
 def try_threads(harness, rng):
-    calls = [(0, mode, steps, [given], ROOM) for _, mode, steps, given, _, _ in rows() if len(given) < 500][::20]
+    calls = [(0, mode, steps, [given], ROOM) for _, mode, steps, given, _, _ in rows(MODES) if len(given) < 500][::20]
     for workflow in texts():
         case, said = walked(workflow, rng, 20)
         texts_of = [workflow.text.encode(), workflow.policy.encode(), case.history]
@@ -353,23 +217,49 @@ def try_threads(harness, rng):
     print(f"threads: {len(calls)} calls by four threads from C, {len(work)} from Python")
 
 
-def try_times(harness):
-    print("entries  us from C  us from Python")
+def try_times(harness, folder):
+    heads, kept = ["entries", "us from C", "us from Python", "us of a process", "that by C"], []
+    print("  ".join(heads))
+    stepper = built_stepper(folder)
     for entries in (0, 20, 40, 60):
         case = order_desk(entries)
-        words = [case.workflow.text.encode(), b"", case.history, f"take {(case.enabled() or [0])[0]}".encode()]
-        spent = min(made_by(harness, [(1, 0, 0, words, 5000)], 2000)[0][2] for _ in range(5))
-        python = min(timed(lambda: step(*words[:3], 0, words[3])) for _ in range(5))
-        print(f"{case.entries:7}  {spent:9.0f}  {python:14.0f}")
-        if case.entries >= 60 and spent > 300:
+        line = next_line(case)
+        words = [case.workflow.text.encode(), b"", case.history, line.encode()]
+        # by turns, since a machine is faster at one time than at another
+        runs = [
+            (made_by(harness, [(1, 0, 0, words, 5000)], 400)[0][2], timed(lambda: step(*words[:3], 0, words[3])), one_process(stepper, case, line))
+            for _ in range(9)
+        ]
+        from_c, python, process = map(min, zip(*runs))
+        kept.append((case.entries, from_c, python, process, process / from_c))
+        print(f"{case.entries:7}  {from_c:9.0f}  {python:14.0f}  {process:15.0f}  {process / from_c:9.1f}", flush=True)
+        if case.entries >= 60 and from_c > 300:
             wrong("a step with 60 entries takes more than 0.3 ms")
+    keep_results("library", heads, kept)
 
 
-def timed(call, count=500):
+def timed(call, count=100):
+    """The processor's microseconds of a call."""
     begun = time.process_time()
     for _ in range(count):
         call()
     return (time.process_time() - begun) * 1e6 / count
+
+
+def built_stepper(folder):
+    made = f"{folder}/step"
+    subprocess.run(["gcc", "-O1", f"-I{TOP}/include", "-o", made, TOP / "examples/c/step.c", MADE / "libflow.a"], check=True)
+    return made
+
+
+def one_process(stepper, case, line):
+    """The processor's microseconds of a process that makes one step."""
+    text, history = (pathlib.Path(stepper).parent / name for name in ("desk.flow", "desk.history"))
+    text.write_text(case.workflow.text)
+    history.write_bytes(case.history)
+    child = subprocess.Popen([stepper, text, history, "0", *line.split()], stdout=subprocess.DEVNULL)
+    _, child.returncode, used = os.wait4(child.pid, 0)
+    return (used.ru_utime + used.ru_stime) * 1e6
 
 
 def main():
@@ -379,7 +269,7 @@ def main():
     parser.add_argument("--walks", type=int, default=200)
     parser.add_argument("--seed", type=int, default=1)
     words = parser.parse_args()
-    parts = words.parts or ["rows", "damaged", "walks", "threads", "examples", "times"]
+    parts = words.parts or ["rows", "damaged", "walks", "threads", "times"]
     rng = random.Random(words.seed)
     with tempfile.TemporaryDirectory() as folder:
         plain = built(folder)
@@ -392,10 +282,8 @@ def main():
             try_walks(rng, words.walks)
         if "threads" in parts:
             try_threads(plain, rng)
-        if "examples" in parts:
-            try_examples(folder)
         if "times" in parts:
-            try_times(plain)
+            try_times(plain, folder)
     sys.exit(1 if WRONG else 0)
 
 

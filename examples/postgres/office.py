@@ -17,6 +17,7 @@ import hashlib
 import json
 import pathlib
 import sys
+from contextlib import contextmanager
 
 import psycopg
 
@@ -78,13 +79,20 @@ def note_claim(db, case, by, line, answer):
         db.execute("DELETE FROM task WHERE case_id = %s AND claim = %s", (case, int(words[1])))
 
 
-def step(db, case, by, line, engine=flow_step):
-    """Gives a line to a case whose row this transaction has locked; stores what it writes. Gives flow's answer."""
-    text, policy, history, count = db.execute(
-        "SELECT text, policy, coalesce(string_agg(record, '' ORDER BY n), ''), count(n) FROM case_ JOIN workflow USING (digest) "
-        "LEFT JOIN entry ON case_id = id WHERE id = %s GROUP BY text, policy",
+def stored(db, case):
+    """The texts of a case whose row this transaction has locked, its history, how many entries that has, and the first leaf that may be
+    begun. This is a statement of its own, behind the one that locks: so it sees what whoever had the lock before has stored."""
+    return db.execute(
+        "SELECT text, policy, coalesce(string_agg(record, '' ORDER BY n), ''), count(n), "
+        "(SELECT min(leaf) FROM task WHERE case_id = id AND claim IS NULL) "
+        "FROM case_ JOIN workflow USING (digest) LEFT JOIN entry ON case_id = id WHERE id = %s GROUP BY id, text, policy",
         (case,),
     ).fetchone()
+
+
+def step(db, case, by, line, engine=flow_step, found=None):
+    """Gives a line to a case whose row this transaction has locked; stores what it writes. Gives flow's answer."""
+    text, policy, history, count, _ = found or stored(db, case)
     status, came = engine(text.encode(), policy.encode(), bytes(history), by, line.encode())
     answer = json.loads(came)
     for record in answer["entries"]:
@@ -98,9 +106,16 @@ def step(db, case, by, line, engine=flow_step):
     return answer
 
 
+@contextmanager
+def one_step(db):
+    """A transaction whose statements are sent together as far as no answer is waited for. It is stored once this block has ended."""
+    with db.pipeline(), db.transaction():
+        yield
+
+
 def give(db, case, by, line):
     """Gives a line to a case, in a transaction of its own."""
-    with db.transaction():
+    with one_step(db):
         if not db.execute("SELECT 1 FROM case_ WHERE id = %s FOR UPDATE", (case,)).fetchone():
             raise Refused(f"there is no case {case}")
         answer = step(db, case, by, line)
@@ -111,21 +126,18 @@ def give(db, case, by, line):
 
 # --- workers
 
-def has_tasks(db, case):
-    return db.execute("SELECT 1 FROM task WHERE case_id = %s LIMIT 1", (case,)).fetchone() is not None
-
-
-def end_if_over(db, case, by, engine):
-    """A case with nothing out and nothing to begin is committed; where that is refused, it is stuck."""
-    if not has_tasks(db, case) and not step(db, case, by, "commit", engine)["ok"]:
+def end_if_over(db, case, by, answer, engine):
+    """A case with nothing to begin and nothing out is committed; where that is refused, it is stuck."""
+    if answer.get("next") or db.execute("SELECT 1 FROM task WHERE case_id = %s LIMIT 1", (case,)).fetchone():
+        return
+    if not step(db, case, by, "commit", engine)["ok"]:
         db.execute("UPDATE case_ SET state = 'stuck' WHERE id = %s", (case,))
 
 
 def begin_task(db, who, engine=flow_step):
     """Takes an open task of a case that nobody steps just now: its case, leaf, label and claim. None where there is none; no leaf where
-somebody
-    took the last one of the case just before. What is no event is done at once."""
-    with db.transaction():
+    somebody took the last one of the case just before. What is no event is done at once."""
+    with one_step(db):
         found = db.execute(
             "SELECT id FROM case_ WHERE state = 'open' AND EXISTS (SELECT 1 FROM task WHERE case_id = id AND claim IS NULL) "
             "ORDER BY id LIMIT 1 FOR UPDATE SKIP LOCKED"
@@ -133,24 +145,23 @@ somebody
         if not found:
             return None
         case = found[0]
-        task = db.execute("SELECT leaf, event FROM task WHERE case_id = %s AND claim IS NULL ORDER BY leaf LIMIT 1", (case,)).fetchone()
-        if not task:
+        found = stored(db, case)
+        leaf = found[4]
+        if leaf is None:
             return case, None, None, None
-        leaf, label = task
+        label = labels_of(found[0])[leaf]
         if not label.isidentifier():
-            step(db, case, who, f"do {leaf}", engine)
-            end_if_over(db, case, who, engine)
+            end_if_over(db, case, who, step(db, case, who, f"do {leaf}", engine, found), engine)
             return case, leaf, label, None
-        answer = step(db, case, who, f"take {leaf}", engine)
+        answer = step(db, case, who, f"take {leaf}", engine, found)
         return case, leaf, label, int(answer["reply"].split()[1])
 
 
 def end_task(db, who, case, claim, engine=flow_step):
     """Tells that the task of a claim is done."""
-    with db.transaction():
+    with one_step(db):
         db.execute("SELECT 1 FROM case_ WHERE id = %s FOR UPDATE", (case,))
-        step(db, case, who, f"done {claim}", engine)
-        end_if_over(db, case, who, engine)
+        end_if_over(db, case, who, step(db, case, who, f"done {claim}", engine), engine)
 
 
 def out_of(db, who):
