@@ -4,3 +4,6 @@ pub mod Members
 pub mod SideLemmas
 pub mod SidesTold
 pub mod SideSteps
+pub mod InTheWayLemmas
+mod IsolatedLemmas
+pub mod BadLemmas

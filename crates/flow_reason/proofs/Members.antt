@@ -25,3 +25,8 @@ pub labelled_within : (labels : List Label) (n : ℕ) (P : Label → Type 0) →
 labelled_within [] n P h = absurd h
 labelled_within (x ∷ xs) zero P h = omega arith
 labelled_within (x ∷ xs) (suc n) P h = let l : n < length xs = labelled_within xs n P h in omega arith
+
+-- a list that is not empty has a member
+pub some_member : (list : List ℕ) → ¬ (list ≡ []) → 0 < length list
+some_member [] none = absurd (none refl)
+some_member (x ∷ xs) none = omega arith

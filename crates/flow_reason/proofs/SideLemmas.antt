@@ -12,7 +12,7 @@ use Rattle.flow_reason.specs.Sides.{has, or_else, first, certain, before, other_
 
 -- Leaves that pass a test
 
-or_true : (a b : Bool) → (a || b) ≡ true → (a ≡ true) ⊎ (b ≡ true)
+pub or_true : (a b : Bool) → (a || b) ≡ true → (a ≡ true) ⊎ (b ≡ true)
 or_true true b is = inl refl
 or_true false b is = inr is
 
@@ -35,14 +35,14 @@ has_in test (Choice a b) is =
 has_in test (Isolated a) is = has_in test a is
 
 -- the leaf that is looked for
-has_it : (leaf : ℕ) (g : Process) → has (λ n. nat_eq n leaf) g ≡ true → leaf ∈ leaves g
+pub has_it : (leaf : ℕ) (g : Process) → has (λ n. nat_eq n leaf) g ≡ true → leaf ∈ leaves g
 has_it leaf g is = let (n, there, same) = has_in (λ n. nat_eq n leaf) g is in subst (λ m. m ∈ leaves g) (eqb-true n leaf same) there
 
 or_some : (o other : Option ℕ) (n : ℕ) → or_else o other ≡ Some n → (o ≡ Some n) ⊎ (other ≡ Some n)
 or_some None other n is = inr is
 or_some (Some m) other n is = inl is
 
-abbrev IsPassing : (ℕ → Bool) → List ℕ → ℕ → Type 0
+abbrev pub IsPassing : (ℕ → Bool) → List ℕ → ℕ → Type 0
 IsPassing test list n = (n ∈ list) × (test n ≡ true)
 
 passing_one : (test : ℕ → Bool) (a b : List ℕ) (n : ℕ) → IsPassing test a n ⊎ IsPassing test b n → IsPassing test (a ++ b) n
@@ -53,7 +53,7 @@ first_task : (test : ℕ → Bool) (k n : ℕ) (b : Bool) → test k ≡ b → c
 first_task test k n true passes is = let same : k ≡ n = some_same k n is in (inl (sym same), subst (λ m. test m ≡ true) same passes)
 first_task test k n false passes is = cc
 
-first_in : (test : ℕ → Bool) (g : Process) (n : ℕ) → first test g ≡ Some n → IsPassing test (leaves g) n
+pub first_in : (test : ℕ → Bool) (g : Process) (n : ℕ) → first test g ≡ Some n → IsPassing test (leaves g) n
 first_in test Empty n is = cc
 first_in test (Task k) n is = first_task test k n (test k) refl is
 first_in test (Sequence a b) n is =

@@ -1,7 +1,8 @@
 -- What a goal of two tells, by what its halves tell.
 use Rattle.std.proofs.Common.{◌≡◌, ℕ, Bool, true, false, nat_eq, is_some, Option, Some, None, [], ◌++◌, refl}
-use Rattle.flow_model.specs.Process.{Process, Sequence, Choice}
+use Rattle.flow_model.specs.Process.{Process, Sequence, Choice, Isolated}
 use Rattle.flow_reason.specs.Sides.{has, first, certain, before, other_side}
+use Rattle.flow_reason.specs.Isolated.{is_left, is_left_here}
 
 module _ (done : ℕ → Bool) (a b : Process) where
   pub begun_one : is_some (first done a) ≡ true → certain done (Choice a b) ≡ certain done a
@@ -35,3 +36,8 @@ module _ (done : ℕ → Bool) (a b : Process) where
 
     pub neither : has (λ n. nat_eq n leaf) a ≡ false → has (λ n. nat_eq n leaf) b ≡ false → None ≡ other_side done leaf (Choice a b)
     neither not_one not_other = rw (not_one, not_other) refl
+
+-- nothing of it is left inside the part, but of the part itself
+pub left_here : (done : ℕ → Bool) (a : Process) (leaf other : ℕ) → is_left done leaf other a ≡ false →
+    is_left_here done leaf other a ≡ is_left done leaf other (Isolated a)
+left_here done a leaf other none = rw none refl

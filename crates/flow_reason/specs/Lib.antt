@@ -3,4 +3,7 @@ pub mod Claimed
 pub mod Facts
 pub mod Reasons
 pub mod Sides
+pub mod InTheWay
 pub mod Waiting
+pub mod Bad
+pub mod Isolated

@@ -6,11 +6,13 @@ use Rattle.flow_core.specs.Run.{Run, schema, now, IsUncommitted}
 use Rattle.flow_core.specs.Answers.{IsOver}
 use Rattle.flow_core.specs.Next.{CanStep, CanAct}
 use Rattle.flow_reason.specs.declared.reason.Reason.{Reason}
-use Rattle.flow_reason.specs.declared.reason.Reason.TheVariants.{NoLeaf, Free, Over, Done, Out, False, OtherSide, Waits, WaitsByConstraints, Other}
+use Rattle.flow_reason.specs.declared.reason.Reason.TheVariants.{NoLeaf, Free, Over, Done, Out, False, OtherSide, Waits, Isolated, WaitsByConstraints, Claims, GivenUp, Other}
 use Rattle.flow_reason.specs.DoneBy.{IsDoneBy}
 use Rattle.flow_reason.specs.Claimed.{IsOutBy}
 use Rattle.flow_reason.specs.Facts.{IsFalseNow}
 use Rattle.flow_reason.specs.Waiting as waiting
+use Rattle.flow_reason.specs.InTheWay.{AreInTheWay, IsGivenUp}
+use Rattle.flow_reason.specs.Isolated.{IsIsolated}
 
 -- the leaf is one of the goal, the run goes on, and it can neither be taken nor done now
 pub record IsBlocked (r : Run) (leaf : ℕ) : Type 0 where
@@ -39,6 +41,9 @@ IsReason r leaf (Out claim entry user) = IsBlocked r leaf × ¬ (leaf ∈ (now r
 IsReason r leaf (False fact wanted leaves) = IsIdle r leaf × IsFalseNow r leaf fact wanted leaves.items
 IsReason r leaf (OtherSide other) = IsHeld r leaf × waiting.IsOtherSide r leaf other
 IsReason r leaf (Waits leaves) = IsHeld r leaf × waiting.WaitsByGoal r leaf leaves.items
+IsReason r leaf (Isolated leaves) = IsHeld r leaf × IsIsolated r leaf leaves.items
 IsReason r leaf (WaitsByConstraints constraints undecided) =
     IsHeld r leaf × waiting.WaitsByConstraints r leaf constraints.items undecided.items
+IsReason r leaf (Claims outs) = IsHeld r leaf × AreInTheWay r leaf outs.items
+IsReason r leaf GivenUp = IsHeld r leaf × IsGivenUp r leaf
 IsReason r leaf Other = IsHeld r leaf

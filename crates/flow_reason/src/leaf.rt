@@ -2,16 +2,23 @@ ghost use Rattle.std.specs.Prelude.{◌≡◌, ◌↔◌, [], IsTrue, IfOk, IfSo
 ghost use Rattle.flow_model.specs.Run.{CanDoAside};
 ghost use Rattle.flow_core.specs.Run.{schema, now};
 ghost use Rattle.flow_reason.specs.Reasons.{IsBlocked, IsIdle, IsHeld, IsReason};
-ghost use Rattle.flow_reason.specs.Waiting.{IsBefore, IsNotNext};
+ghost use Rattle.flow_residual.specs.Remaining.{IsOf};
+ghost use Rattle.flow_reason.specs.InTheWay.{unbanned};
+ghost use Rattle.flow_reason.specs.Isolated.{IsLeftOfPart};
+ghost use Rattle.flow_reason.specs.Waiting.{IsBefore, IsNotNext, WaitsByGoal};
 ghost use Rattle.flow_model.specs.Lists.{Each};
 
 use crate::claimed::{Out, claim_out_on};
 use crate::done_by::entry_that_did;
 use crate::facts::{label_at, leaves, left_to};
+use crate::in_the_way::{is_event, least_in_the_way, may_come_with, ungiven};
+use crate::isolated::open_leaves;
 use crate::reason::Reason;
 use crate::sides::{chosen_against, leaves_before};
 use flow_core::Core;
 use flow_model::Label;
+use flow_residual::Residual;
+use flow_standing::claims_out;
 use flow_why::{Conflict, why_not};
 use std::alloc::{AllocError, Global};
 
@@ -85,10 +92,44 @@ fn why_held(alloc: Global, core: &Core, leaf: u32) -> Result<Reason, AllocError>
         return Ok(Reason::OtherSide { leaf: other });
     }
     let Some(conflict) = why_not_next(alloc, core, leaf)? else {
-        return Ok(Reason::Other);
+        return why_beside(alloc, core, leaf);
     };
     let before = leaves_before(alloc, core, leaf)?;
-    Ok(why_conflict(core, leaf, conflict, before))
+    let unfinished = open_leaves(alloc, core, leaf)?;
+    Ok(why_conflict(core, leaf, conflict, before, unfinished))
+}
+
+/// The same of a leaf that goal and constraints let come next, as far as that is known.
+fn why_beside(alloc: Global, core: &Core, leaf: u32) -> Result<Reason, AllocError>
+    requires { IsHeld core.now leaf }
+    ensures { IfOk result (IsReason core.now leaf) }
+{
+    let Some(residual) = ungiven(alloc, core)? else {
+        return Ok(Reason::Other);
+    };
+    let reason = why_claims(alloc, core, &residual, leaf);
+    drop(residual);
+    reason
+}
+
+/// The same, by what would remain of the workflow if nothing had been given up.
+fn why_claims(
+    alloc: Global,
+    core: &Core,
+    residual: &Residual,
+    leaf: u32,
+) -> Result<Reason, AllocError>
+    requires held { IsHeld core.now leaf }
+    requires remains { IsOf (schema core.now) (unbanned (now core.now)) residual.now }
+    ensures { IfOk result (IsReason core.now leaf) }
+{
+    let outs = claims_out(alloc, core)?;
+    let event = is_event(core, leaf);
+    if may_come_with(alloc, residual, event, &outs, leaf)? {
+        return Ok(Reason::GivenUp);
+    }
+    let claims = least_in_the_way(alloc, residual, event, &outs, leaf)?;
+    Ok(Reason::Claims { claims })
 }
 
 /// The constraints that do not let the leaf come next, whatever claims are out and whatever was given up: none where the goal does not.
@@ -107,11 +148,18 @@ fn is_none(list: &[u32]) -> bool
     list.is_empty()
 }
 
-/// What such constraints come to, where these leaves stand before the leaf.
-fn why_conflict(core: &Core, leaf: u32, conflict: Conflict, leaves: Vec<u32>) -> Reason
+/// What such constraints come to, where these leaves stand before the leaf, and those are left of isolated parts without it.
+fn why_conflict(
+    core: &Core,
+    leaf: u32,
+    conflict: Conflict,
+    leaves: Vec<u32>,
+    unfinished: Vec<u32>,
+) -> Reason
     requires held { IsHeld core.now leaf }
     requires conflict { IsNotNext core.now leaf conflict.members.items conflict.undecided.items }
     requires before { Each (IsBefore core.now leaf) leaves.items }
+    requires unfinished { Each (IsLeftOfPart core.now leaf) unfinished.items }
     ensures { IsReason core.now leaf result }
 {
     let Conflict {
@@ -119,11 +167,28 @@ fn why_conflict(core: &Core, leaf: u32, conflict: Conflict, leaves: Vec<u32>) ->
         undecided,
     } = conflict;
     if is_none(&constraints) {
-        Reason::Waits { leaves }
+        why_waits(core, leaf, leaves, unfinished)
     } else {
         Reason::WaitsByConstraints {
             constraints,
             undecided,
         }
+    }
+}
+
+/// What it comes to that the goal alone does not let the leaf come next.
+fn why_waits(core: &Core, leaf: u32, leaves: Vec<u32>, unfinished: Vec<u32>) -> Reason
+    requires held { IsHeld core.now leaf }
+    requires waits { WaitsByGoal core.now leaf leaves.items }
+    requires unfinished { Each (IsLeftOfPart core.now leaf) unfinished.items }
+    ensures { IsReason core.now leaf result }
+{
+    if is_none(&unfinished) {
+        return Reason::Waits { leaves };
+    }
+    if is_none(&leaves) {
+        Reason::Isolated { leaves: unfinished }
+    } else {
+        Reason::Waits { leaves }
     }
 }

@@ -1,3 +1,5 @@
+use flow_standing::Out;
+
 /// Why a leaf of a run is not taken or done now. Places of entries are counted from 0.
 #[derive(Drop)]
 pub enum Reason {
@@ -32,11 +34,22 @@ pub enum Reason {
     Waits {
         leaves: Vec<u32>,
     },
+    /// The goal alone does not let it come next. An isolated part is begun that does not have it: these leaves of the part are not done.
+    Isolated {
+        leaves: Vec<u32>,
+    },
     /// These constraints do not let it come next. Each is needed for that, but for the undecided ones: to see it would pass the limits.
     WaitsByConstraints {
         constraints: Vec<u32>,
         undecided: Vec<u32>,
     },
-    /// Something else, as claims that are out, or a leaf that was given up: of this no more is told.
+    /// These claims, which are out, are in the way: with all but one of them out the leaf could be taken, or done whatever facts hold, if
+    /// nothing had been given up.
+    Claims {
+        claims: Vec<Out>,
+    },
+    /// If nothing had been given up, which failed or which the run stepped back over, the leaf could be taken, or done whatever facts hold.
+    GivenUp,
+    /// Something else: of this no more is told.
     Other,
 }

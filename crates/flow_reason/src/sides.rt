@@ -29,7 +29,7 @@ fn flag(flags: &mut Vec<bool>, leaf: u32)
 }
 
 /// Of each leaf, whether it is done.
-fn done_flags(alloc: Global, core: &Core) -> Result<Vec<bool>, AllocError>
+pub(crate) fn done_flags(alloc: Global, core: &Core) -> Result<Vec<bool>, AllocError>
     ensures { IfOk result (λ flags. AreFlags core.now flags.items) }
 {
     let mut flags = vec![in alloc; false; leaves(core) as usize]?;
@@ -40,7 +40,7 @@ fn done_flags(alloc: Global, core: &Core) -> Result<Vec<bool>, AllocError>
 }
 
 /// The flag of the leaf.
-fn is_flagged(flags: &[bool], leaf: u32) -> bool
+pub(crate) fn is_flagged(flags: &[bool], leaf: u32) -> bool
     ensures { result ≡ slice_index_or flags.now leaf false }
 {
     match flags.get(leaf as usize) {
@@ -50,7 +50,7 @@ fn is_flagged(flags: &[bool], leaf: u32) -> bool
 }
 
 /// Whether the goal has the leaf.
-fn has_leaf(goal: &Goal, leaf: u32) -> bool
+pub(crate) fn has_leaf(goal: &Goal, leaf: u32) -> bool
     ensures { result ≡ sides.has (λ n. n == leaf) (process_of goal.now) }
 {
     match goal {
@@ -64,7 +64,7 @@ fn has_leaf(goal: &Goal, leaf: u32) -> bool
 }
 
 /// The first leaf of the goal that is done.
-fn first_done(goal: &Goal, done: &[bool]) -> Option<u32>
+pub(crate) fn first_done(goal: &Goal, done: &[bool]) -> Option<u32>
     ensures { result ≡ sides.first (λ n. slice_index_or done.now n false) (process_of goal.now) }
 {
     match goal {
@@ -132,7 +132,7 @@ fn push_before(left: &mut Vec<u32>, goal: &Goal, leaf: u32, done: &[bool]) -> Re
 }
 
 /// A leaf that is done, on the other side of a choice above both.
-fn other_side(goal: &Goal, leaf: u32, done: &[bool]) -> Option<u32>
+pub(crate) fn other_side(goal: &Goal, leaf: u32, done: &[bool]) -> Option<u32>
     ensures { result ≡ sides.other_side (λ n. slice_index_or done.now n false) leaf (process_of goal.now) }
 {
     match goal {
@@ -177,7 +177,7 @@ pub(crate) fn chosen_against(
 }
 
 /// Leaves that are not done, and stand before the leaf in each trace of the goal that begins with the journal and has it.
-pub(crate) fn leaves_before(alloc: Global, core: &Core, leaf: u32) -> Result<Vec<u32>, AllocError>
+pub fn leaves_before(alloc: Global, core: &Core, leaf: u32) -> Result<Vec<u32>, AllocError>
     ensures { IfOk result (λ leaves. Each (IsBefore core.now leaf) leaves.items) }
 {
     // what the goal keeps of its leaves

@@ -1,5 +1,6 @@
 use crate::reason::Reason;
 use flow_model::Label;
+use flow_standing::Out;
 use flow_workflow::{Workflow, push_fact_after, push_leaf_label};
 use itoa::Buffer;
 use std::alloc::AllocError;
@@ -100,6 +101,20 @@ fn push_constraints(
     push_numbers(text, undecided)
 }
 
+/// Adds which claims are in the way.
+fn push_claims(text: &mut Vec<u8>, workflow: &Workflow, claims: &[Out]) -> Result<(), AllocError> {
+    push_words(text, " waits for what is out: ")?;
+    let mut before = "";
+    for out in claims {
+        push_words(text, before)?;
+        push_leaf(text, workflow, out.call.leaf)?;
+        push_words(text, ", claim ")?;
+        push_number(text, u64::from(out.call.claim))?;
+        before = "; ";
+    }
+    Ok(())
+}
+
 impl Reason {
     /// Adds the reason to a text, in words, without a line feed: names first, numbers behind them.
     pub fn print(
@@ -161,10 +176,22 @@ impl Reason {
                 push_words(text, ": it waits for ")?;
                 push_leaves(text, workflow, leaves)
             }
+            Reason::Isolated { leaves } => {
+                push_words(
+                    text,
+                    " waits for an isolated part that is begun; left of it: ",
+                )?;
+                push_leaves(text, workflow, leaves)
+            }
             Reason::WaitsByConstraints {
                 constraints,
                 undecided,
             } => push_constraints(text, constraints, undecided),
+            Reason::Claims { claims } => push_claims(text, workflow, claims),
+            Reason::GivenUp => push_words(
+                text,
+                " may not come next, since something was given up: a task failed, or the run stepped back",
+            ),
             Reason::Other => {
                 push_words(text, " cannot be ")?;
                 push_words(text, act_word(workflow, leaf))?;

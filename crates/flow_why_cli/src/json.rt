@@ -1,10 +1,14 @@
 use crate::hint_words::hint_name;
+use crate::lines::{line_refused, lines_before, lines_of, without_divider};
 use crate::page::Page;
+use crate::policy_words::policy_place;
 use crate::rule_words::{WrittenRule, written_rules};
 use flow_excise::CompileRefusal;
-use flow_fault::{Met, fault_of, spot_of};
+use flow_fault::{Met, fault_of, met_at, spot_of};
 use flow_form::{TextRefusal, Wanted};
 use flow_front::Refused;
+use flow_policy::PolicyRefusal;
+use flow_record::RecordRefusal;
 use flow_why::Conflict;
 use flow_workflow::{ExpandRefusal, Part};
 use std::alloc::{AllocError, Global};
@@ -46,7 +50,14 @@ fn expand_name(refusal: &ExpandRefusal) -> &'static str {
 /// The word of a refusal.
 fn refusal_name(refused: &Refused) -> &'static str {
     match refused {
-        Refused::Text(refusal) => text_name(refusal),
+        Refused::Text(refusal) | Refused::Query(refusal) => text_name(refusal),
+        Refused::Policy(PolicyRefusal::NotAscii { .. }) => "byte",
+        Refused::Policy(PolicyRefusal::BadToken { .. }) => "token",
+        Refused::Policy(PolicyRefusal::Expected { .. }) => "expected",
+        Refused::Policy(PolicyRefusal::Unknown { .. }) => "unknown",
+        Refused::Record(RecordRefusal::BadLine { .. }) => "line",
+        Refused::Record(RecordRefusal::Label { .. }) => "label",
+        Refused::NoRule(_) => "constraint",
         Refused::Expand(refusal) => expand_name(refusal),
         Refused::Compile(CompileRefusal::TooManyChoices { .. }) => "choices",
         Refused::Compile(CompileRefusal::TooManyWays { .. }) => "options",
@@ -56,7 +67,7 @@ fn refusal_name(refused: &Refused) -> &'static str {
 }
 
 /// Adds a key and a text behind what stands before.
-fn push_text(page: &mut Page, key: &str, value: &[u8]) -> Result<(), AllocError> {
+pub(crate) fn push_text(page: &mut Page, key: &str, value: &[u8]) -> Result<(), AllocError> {
     page.words(",")?;
     page.quoted(key.as_bytes())?;
     page.words(":")?;
@@ -64,7 +75,7 @@ fn push_text(page: &mut Page, key: &str, value: &[u8]) -> Result<(), AllocError>
 }
 
 /// Adds a key and a number behind what stands before.
-fn push_number(page: &mut Page, key: &str, value: u64) -> Result<(), AllocError> {
+pub(crate) fn push_number(page: &mut Page, key: &str, value: u64) -> Result<(), AllocError> {
     page.words(",")?;
     page.quoted(key.as_bytes())?;
     page.words(":")?;
@@ -91,43 +102,98 @@ fn kind_name(wanted: Wanted) -> &'static str {
     }
 }
 
-/// Adds where a text is refused, what is met there and what may help.
-fn push_fault(page: &mut Page, text: &[u8], refusal: &TextRefusal) -> Result<(), AllocError> {
+/// Adds where a text is refused, so many lines behind others, what is met there and what may help.
+fn push_fault(
+    page: &mut Page,
+    text: &[u8],
+    before: usize,
+    refusal: &TextRefusal,
+) -> Result<(), AllocError> {
     let fault = fault_of(text, refusal);
     if let TextRefusal::Expected { kind, .. } = refusal {
         push_text(page, "kind", kind_name(*kind).as_bytes())?;
     }
-    push_number(page, "line", fault.spot.line as u64)?;
+    push_number(page, "line", fault.spot.line.saturating_add(before) as u64)?;
     push_number(page, "column", fault.spot.column as u64)?;
-    match fault.met {
-        Met::Reserved(met) | Met::Name(met) | Met::Number(met) => push_text(page, "met", met)?,
-        Met::Mark(byte) | Met::Byte(byte) => push_text(page, "met", &[byte])?,
-        Met::End => {}
-    }
+    push_met(page, fault.met)?;
     match fault.hint {
         Some(hint) => push_text(page, "hint", hint_name(hint).as_bytes()),
         None => Ok(()),
     }
 }
 
-/// A refusal as an object.
+/// A refusal as an object. The second text is the one behind the workflow's that is read.
 pub(crate) fn refusal_object(
     alloc: Global,
     text: &[u8],
+    second: &[u8],
     refused: &Refused,
 ) -> Result<Vec<u8>, AllocError> {
     let mut page = Page::new(alloc);
     page.words("{\"verdict\":\"refused\"")?;
     push_text(&mut page, "refusal", refusal_name(refused).as_bytes())?;
-    if let Refused::Text(refusal) = refused {
-        push_fault(&mut page, text, refusal)?;
+    match refused {
+        Refused::Text(refusal) => push_fault(&mut page, text, 0, refusal)?,
+        Refused::Query(refusal) => push_fault(
+            &mut page,
+            without_divider(second),
+            lines_before(second),
+            refusal,
+        )?,
+        Refused::Policy(refusal) => push_policy_fault(&mut page, second, refusal)?,
+        Refused::Record(refusal) => push_bad_line(&mut page, alloc, second, *refusal)?,
+        _ => {}
     }
     page.words("}\n")?;
     Ok(page.into_bytes())
 }
 
+/// Adds where a policy is refused, and what is met there.
+fn push_policy_fault(
+    page: &mut Page,
+    policy: &[u8],
+    refusal: &PolicyRefusal,
+) -> Result<(), AllocError> {
+    let text = without_divider(policy);
+    let place = text.len().min(policy_place(refusal));
+    let spot = spot_of(text, place);
+    push_number(
+        page,
+        "line",
+        spot.line.saturating_add(lines_before(policy)) as u64,
+    )?;
+    push_number(page, "column", spot.column as u64)?;
+    push_met(page, met_at(text, place))
+}
+
+/// Adds which line is not as it must be, from 1, and the line.
+fn push_bad_line(
+    page: &mut Page,
+    alloc: Global,
+    text: &[u8],
+    refusal: RecordRefusal,
+) -> Result<(), AllocError> {
+    let lines = lines_of(alloc, text)?;
+    match line_refused(&lines, refusal) {
+        Some(line) => {
+            push_number(page, "line", line.number as u64)?;
+            push_text(page, "text", line.text)
+        }
+        None => Ok(()),
+    }
+}
+
+/// Adds what is met.
+fn push_met(page: &mut Page, met: Met<'_>) -> Result<(), AllocError> {
+    match met {
+        Met::Reserved(met) | Met::Name(met) | Met::Number(met) => push_text(page, "met", met),
+        Met::Mark(byte) | Met::Byte(byte) => push_text(page, "met", &[byte]),
+        Met::End => Ok(()),
+    }
+}
+
 /// Adds numbers between commas.
-fn push_numbers(page: &mut Page, numbers: &[u32]) -> Result<(), AllocError> {
+pub(crate) fn push_numbers(page: &mut Page, numbers: &[u32]) -> Result<(), AllocError> {
     let mut before = "";
     for number in numbers {
         page.words(before)?;

@@ -166,11 +166,7 @@ fn find(
 
 /// Where a leaf stands in a text: in the goal, then in each sub-workflow by which it comes. Of a text that says no workflow it
 /// may be nowhere.
-pub(crate) fn places_of_leaf(
-    alloc: Global,
-    text: &[u8],
-    leaf: u32,
-) -> Result<Vec<usize>, AllocError> {
+pub fn places_of_leaf(alloc: Global, text: &[u8], leaf: u32) -> Result<Vec<usize>, AllocError> {
     let mut places = Vec::new(alloc);
     let Ok(tokens) = lex(alloc, text) else {
         return Ok(places);

@@ -3,23 +3,25 @@ use std::alloc::{AllocError, Global};
 
 /// Text that is written a piece at a time.
 #[derive(Drop)]
-pub(crate) struct Page {
+pub struct Page {
     text: Vec<u8>,
 }
 
 impl Page {
-    pub(crate) fn new(alloc: Global) -> Page {
+    /// Nothing is written yet.
+    pub fn new(alloc: Global) -> Page {
         Page {
             text: Vec::new(alloc),
         }
     }
 
-    pub(crate) fn into_bytes(self) -> Vec<u8> {
+    /// What is written.
+    pub fn into_bytes(self) -> Vec<u8> {
         self.text
     }
 
     /// What is written so far.
-    pub(crate) fn bytes(&mut self) -> &mut Vec<u8> {
+    pub fn bytes(&mut self) -> &mut Vec<u8> {
         &mut self.text
     }
 
@@ -27,11 +29,13 @@ impl Page {
         self.text.extend_from_slice(piece)
     }
 
-    pub(crate) fn words(&mut self, piece: &str) -> Result<(), AllocError> {
+    /// Adds words.
+    pub fn words(&mut self, piece: &str) -> Result<(), AllocError> {
         self.push(piece.as_bytes())
     }
 
-    pub(crate) fn number(&mut self, number: u64) -> Result<(), AllocError> {
+    /// Adds a number, in decimal digits.
+    pub fn number(&mut self, number: u64) -> Result<(), AllocError> {
         let mut digits = Buffer::new();
         self.words(digits.format(number))
     }
@@ -46,7 +50,7 @@ impl Page {
     }
 
     /// The bytes as the inside of a JSON string.
-    pub(crate) fn quoted(&mut self, piece: &[u8]) -> Result<(), AllocError> {
+    pub fn quoted(&mut self, piece: &[u8]) -> Result<(), AllocError> {
         self.push(b"\"")?;
         for byte in piece {
             match *byte {

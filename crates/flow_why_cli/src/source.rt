@@ -26,7 +26,7 @@ fn parse_part(alloc: Global, text: &[u8]) -> Result<Script, Stop>
 }
 
 /// What the text of a workflow says. What stands behind a line `%%` is not looked at.
-pub(crate) fn script_of(alloc: Global, text: &[u8]) -> Result<Script, Stop>
+pub fn script_of(alloc: Global, text: &[u8]) -> Result<Script, Stop>
     ensures says { IfOk result (λ script. Says (workflow_part text.now) (said script)) }
     ensures closed { IfOk result (λ script. IsClosed (said script)) }
     ensures stop { IfErr result (IsStop (IsCause (the_source (Some text.now)))) }

@@ -2,7 +2,7 @@ use flow_lex::{Token, TokenKind};
 use flow_reader::{Symbol, symbol_of};
 
 /// The word or mark that a token is; none of a number.
-pub(crate) fn symbol_at(text: &[u8], token: Token) -> Option<Symbol<'_>> {
+pub fn symbol_at(text: &[u8], token: Token) -> Option<Symbol<'_>> {
     if token.start >= token.end || token.end > text.len() {
         return None;
     }

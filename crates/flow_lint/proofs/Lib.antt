@@ -1,0 +1,5 @@
+pub mod LiveLeaves
+pub mod FindingLists
+pub mod Named
+pub mod MarkLemmas
+pub mod Told

@@ -1,0 +1,27 @@
+//! Reasons of leaves in words.
+
+use crate::conflict_words::push_rule;
+use crate::page::Page;
+use crate::rule_words::WrittenRule;
+use flow_core::Core;
+use flow_reason::Reason;
+use std::alloc::AllocError;
+
+/// Adds the reason of a leaf on a line, and the constraints that it names on lines of their own.
+pub(crate) fn push_reason(
+    page: &mut Page,
+    text: &[u8],
+    rules: &[WrittenRule],
+    core: &Core,
+    leaf: u32,
+    reason: &Reason,
+) -> Result<(), AllocError> {
+    reason.print(page.bytes(), core.workflow(), leaf)?;
+    page.words("\n")?;
+    if let Reason::WaitsByConstraints { constraints, .. } = reason {
+        for number in constraints {
+            push_rule(page, text, rules, *number)?;
+        }
+    }
+    Ok(())
+}
