@@ -83,17 +83,19 @@ _flowdesk() {
             [[ ${COMP_WORDS[1]} == log ]] && forms="text csv json"
             mapfile -t COMPREPLY < <(compgen -W "$forms" -- "$word") && return
             ;;
-        --journal | --workflow | --policy | --map | --journals) _flow_files "$word" && return ;;
+        --journal | --workflow | --policy | --map | --journals | --session | --query) _flow_files "$word" && return ;;
     esac
     if [[ $COMP_CWORD -eq 1 ]]; then
-        local cases="new take done fail do rewind commit todo why history undone facts report verify open"
-        mapfile -t COMPREPLY < <(compgen -W "draw explain log $cases --help --version" -- "$word")
+        local cases="new take done fail do rewind commit tidy todo why history undone facts report verify open"
+        mapfile -t COMPREPLY < <(compgen -W "draw explain lint log $cases --help --version" -- "$word")
     elif [[ $word == -* && ${COMP_WORDS[1]} == new ]]; then
         mapfile -t COMPREPLY < <(compgen -W "$(_flow_unused --workflow --policy)" -- "$word")
-    elif [[ $word == -* && ${COMP_WORDS[1]} != draw && ${COMP_WORDS[1]} != explain && ${COMP_WORDS[1]} != log ]]; then
-        mapfile -t COMPREPLY < <(compgen -W "$(_flow_unused --as --note --at --wait --json)" -- "$word")
+    elif [[ $word == -* && ${COMP_WORDS[1]} != draw && ${COMP_WORDS[1]} != explain && ${COMP_WORDS[1]} != lint && ${COMP_WORDS[1]} != log ]]; then
+        mapfile -t COMPREPLY < <(compgen -W "$(_flow_unused --as --note --at --wait --json --quiet --ok)" -- "$word")
     elif [[ $word == -* && ${COMP_WORDS[1]} == explain ]]; then
-        mapfile -t COMPREPLY < <(compgen -W "$(_flow_unused --circles --json)" -- "$word")
+        mapfile -t COMPREPLY < <(compgen -W "$(_flow_unused --circles --session --policy --leaf --journal --query --json)" -- "$word")
+    elif [[ $word == -* && ${COMP_WORDS[1]} == lint ]]; then
+        mapfile -t COMPREPLY < <(compgen -W "$(_flow_unused --json)" -- "$word")
     elif [[ $word == -* && ${COMP_WORDS[1]} == log ]]; then
         mapfile -t COMPREPLY < <(compgen -W "$(_flow_unused --workflow --case --activity --time --map --form --journals --jobs --budget)" -- "$word")
     elif [[ $word == -* ]]; then

@@ -1,131 +1,89 @@
 //! A case whose entries and lines are kept before they are told.
-ghost use Rattle.std.specs.Prelude.{◌≡◌, ◌-◌, ◌^◌, ◌<◌, false};
-ghost use Rattle.flow_keep.specs.Holding as kept;
-ghost use Rattle.flow_trail.specs.Held as held;
+ghost use Rattle.std.specs.Prelude.{◌≡◌, ◌⊎◌, ◌-◌, ◌^◌, ◌<◌, ◌∷◌, ◌++◌, [], ℕ, List, ◌↔◌, ◌+◌, Err, false, true, length, IfOk, OnOk};
+ghost use Rattle.std.specs.Result.{is_err};
+ghost use Rattle.std.specs.String.{string_bytes};
+ghost use Rattle.hex.specs.Hex.{encode_lower};
+ghost use Rattle.flow_ask.specs.declared.refusal.Refusal.TheVariants as refusal;
+ghost use Rattle.flow_case.specs.CaseRun.{run_of, CaseAnswers};
+ghost use Rattle.flow_keep.specs.Answered.{KeepAnswers, LeavesKept};
+ghost use Rattle.flow_keep.specs.Records.{Keeps};
+ghost use Rattle.flow_trail.specs.Lines.{Said, undone, end_of, Says};
+ghost use Rattle.flow_case_cli.specs.Held as cli;
+ghost use Rattle.flow_case_cli.specs.Line.{TellsEntry};
+ghost use Rattle.flow_case_cli.specs.Asked.{TellsLine, IsToldFirst};
 
 use crate::fresh::case_with;
 use crate::names::Names;
 use crate::opened::KeptTexts;
 use flow_ask::{Answer, Ask, Refusal};
 use flow_case::CaseRun;
-use flow_case_talk::{Book, Speaker, Told};
+use flow_case_cli::{Asker, Case, step_words};
+use flow_case_talk::{Book, Form, Reply, Speaker, Told, respond};
 use flow_core::Core;
 use flow_disk::Disk;
-use flow_keep::Keep;
-use flow_model::{Entry, Step};
-use flow_names::{steps_to_take, waits_for_step};
+use flow_model::Entry;
+use flow_names::{steps_to_take, tidy_steps, waits_for_step};
 use flow_policy::Policy;
-use flow_record::print_history;
-use flow_trail::{Telling, Trail, TrailLine};
-use flow_workflow::push_leaf_label;
+use flow_trail::TrailLine;
 use std::alloc::{AllocError, Global};
 
-/// A case: its texts, its run in memory, the same run as it is kept, and its trail.
+/// A case with its texts, and its users by name.
 #[derive(Drop)]
 pub struct CaseBook<D: Disk, T: Disk> {
     pub(crate) alloc: Global,
     pub(crate) texts: KeptTexts,
-    /// Asked first, so that it is known which line the trail is to have.
-    pub(crate) scout: CaseRun,
-    pub(crate) keep: Keep<D, CaseRun>,
-    pub(crate) trail: Trail<T>,
-    /// For each entry of the history, the line of the trail that tells it.
+    pub(crate) case: Case<D, T>,
+    /// For each entry of the history, the line of the trail that tells it. It is shorter where memory was wanting.
     pub(crate) lines: Vec<usize>,
     pub(crate) names: Names,
-    /// Whether a step could not be kept. Nothing is done any more.
-    pub(crate) broken: bool,
-    ghost entry_counts: { kept.is_broken keep ≡ false → D.faults (kept.disk_of keep) < 2 ^ 64 - 1 },
-    ghost line_counts: { held.is_broken trail ≡ false → T.faults (held.disk_of trail) < 2 ^ 64 - 1 },
+    ghost entry_faults: { cli.is_broken case ≡ false → D.faults (cli.keep_disk case) < 2 ^ 64 - 1 },
+    ghost line_faults: { cli.is_broken case ≡ false → T.faults (cli.trail_disk case) < 2 ^ 64 - 1 },
 }
 
-/// The step of an entry in words, as a history has it.
-fn step_text(alloc: Global, entry: Entry) -> Result<String, AllocError> {
-    let line = print_history(alloc, &[entry])?;
-    let text = match str::from_utf8(&line) {
-        Ok(text) => text,
-        Err(_) => "",
-    };
-    let step = match text.split_once(": ") {
-        Some((_, step)) => step,
-        None => text,
-    };
-    let step = step.trim_end();
-    format!(in alloc; "{step}")
-}
-
-/// The leaf on which the claim was given.
-fn leaf_of_claim(core: &Core, claim: u32) -> Option<u32> {
-    for entry in core.history() {
-        match entry.step {
-            Step::Took { claim: given, leaf } if given == claim => return Some(leaf),
-            _ => {}
-        }
-    }
-    None
-}
-
-/// The leaf that an entry is about, if it is about one.
-fn leaf_of(core: &Core, entry: Entry) -> Option<u32> {
-    match entry.step {
-        Step::Took { leaf, .. } | Step::Did { leaf } => Some(leaf),
-        Step::Done { claim } | Step::Failed { claim, .. } | Step::Late { claim } => {
-            leaf_of_claim(core, claim)
-        }
-        Step::Rewound { .. } | Step::Committed => None,
-    }
-}
-
-/// The name of the task or step that an entry is about.
-fn task_text(alloc: Global, core: &Core, entry: Entry) -> Result<String, AllocError> {
-    let mut label = Vec::new(alloc);
-    if let Some(leaf) = leaf_of(core, entry) {
-        push_leaf_label(&mut label, core.workflow(), leaf)?;
-    }
-    match str::from_utf8(&label) {
-        Ok(text) => format!(in alloc; "{text}"),
-        Err(_) => format!(in alloc; ""),
-    }
-}
-
-/// The line that tells the entry.
-fn telling(
-    alloc: Global,
-    core: &Core,
-    entry: Entry,
-    speaker: Speaker<'_>,
-) -> Result<TrailLine, AllocError> {
-    let (at, by, note) = (speaker.at, speaker.name, speaker.note);
-    Ok(TrailLine::Told(Telling {
-        at: format!(in alloc; "{at}")?,
-        by: format!(in alloc; "{by}")?,
-        entry: step_text(alloc, entry)?,
-        task: task_text(alloc, core, entry)?,
-        note: format!(in alloc; "{note}")?,
-    }))
-}
-
-/// The last entry of a history that is longer than before.
-fn entry_behind(core: &Core, before: usize) -> Option<Entry> {
-    match core.history().get(before) {
-        Some(entry) => Some(*entry),
-        None => None,
+/// Notes the line that tells the last entry, where one came.
+fn note_line(lines: &mut Vec<usize>, before: usize, count: usize, line: usize) {
+    if before < count && lines.len() == before {
+        let _ = lines.push(line);
     }
 }
 
 impl<D: Disk, T: Disk> CaseBook<D, T> {
-    /// The number of a user by name; 0 where the case knows no such user.
-    pub fn number_of(&mut self, name: &str) -> Result<u32, AllocError> {
-        self.names.number_of(self.alloc, name)
+    ghost use Rattle.flow_case_book.specs.Held.{case_of, keep_disk, trail_disk, start_of, said_in, is_broken, names_in};
+
+    /// Replies to a line. When it returns, each entry that the case has is on the disk, and the line that tells it.
+    pub fn reply(&mut self, asker: Asker<'_>, line: &[u8], form: Form) -> Result<Reply, AllocError>
+        ensures entries { D.tells → is_broken self.new ≡ false → (c : List ℕ) → D.image (keep_disk self.new) (D.moment (keep_disk self.new)) c →
+            Keeps (run_of (case_of self.new)).history c }
+        ensures lines { T.tells → is_broken self.new ≡ false → (c : List ℕ) → T.image (trail_disk self.new) (T.moment (trail_disk self.new)) c →
+            Says (start_of self.new) (said_in self.new) c }
+        ensures told { is_broken self.new ≡ false → (end_of (start_of self.new) (said_in self.new)).count ≡ length (run_of (case_of self.new)).history }
+    {
+        let known = self.names.count() as usize;
+        let before = self.core().history().len();
+        let speaker = Speaker {
+            number: self.names.number_of(self.alloc, asker.name)?,
+            name: asker.name,
+            at: asker.at,
+            note: asker.note,
+        };
+        let reply = respond(self.alloc, self, speaker, line, form);
+        if self.core().history().len() == before {
+            // users are numbered as they first make an entry
+            self.names.forget(known);
+        }
+        reply
     }
 
     /// The last seal of the trail, in hexadecimal.
-    pub fn seal(&self, alloc: Global) -> Result<String, AllocError> {
-        hex::encode(alloc, &self.trail.end().seal)
+    pub fn seal(&self, alloc: Global) -> Result<String, AllocError>
+        ensures { IfOk result (λ text. string_bytes text ≡ encode_lower (end_of (start_of self.now) (said_in self.now)).seal) }
+    {
+        hex::encode(alloc, &self.case.trail().end().seal)
     }
 
     /// The place of the first entry, from 0, that its line does not tell.
     pub fn fault(&self) -> Option<usize> {
-        for (place, entry) in self.scout.core().history().iter().enumerate() {
+        for (place, entry) in self.case.run().core().history().iter().enumerate() {
             if !self.is_told(place, *entry) {
                 return Some(place);
             }
@@ -138,10 +96,10 @@ impl<D: Disk, T: Disk> CaseBook<D, T> {
         let Some(line) = self.lines.get(place) else {
             return false;
         };
-        let Some(TrailLine::Told(telling)) = self.trail.lines().get(*line) else {
+        let Some(TrailLine::Told(telling)) = self.case.trail().lines().get(*line) else {
             return false;
         };
-        match step_text(self.alloc, entry) {
+        match step_words(self.alloc, entry.step) {
             Ok(step) => {
                 let is_same = step.as_str() == telling.entry.as_str();
                 is_same && self.names.name_of(entry.by) == telling.by.as_str()
@@ -150,46 +108,37 @@ impl<D: Disk, T: Disk> CaseBook<D, T> {
         }
     }
 
-    /// Tells the entry on the trail. It is in the file when this answers.
-    fn tell(&mut self, entry: Entry, speaker: Speaker<'_>) -> Result<(), Refusal> {
-        if self.trail.is_broken() {
-            return Err(Refusal::Broken);
+    /// Another run with the same history, which is not kept.
+    fn twin(&self, alloc: Global) -> Result<CaseRun, AllocError> {
+        match case_with(alloc, self.texts.lent(), self.case.run().core().history()) {
+            Ok(twin) => Ok(twin),
+            Err(stop) => {
+                drop(stop);
+                Err(AllocError)
+            }
         }
-        let Ok(line) = telling(self.alloc, self.scout.core(), entry, speaker) else {
-            return Err(Refusal::Disk);
-        };
-        let place = self.trail.lines().len();
-        match self.trail.tell(self.alloc, line) {
-            Ok(()) => {}
-            Err(_) => return Err(Refusal::Disk),
-        }
-        match self.lines.push(place) {
-            Ok(()) => Ok(()),
-            Err(_) => Err(Refusal::Disk),
-        }
-    }
-
-    /// Tells the entry, and has the kept run make it.
-    fn keep_entry(&mut self, ask: Ask, entry: Entry, speaker: Speaker<'_>) -> Answer {
-        self.tell(entry, speaker)?;
-        if self.keep.is_broken() {
-            return Err(Refusal::Broken);
-        }
-        self.keep.answer(ask, speaker.number)
     }
 }
 
 impl<D: Disk, T: Disk> Book for CaseBook<D, T> {
+    ghost use Rattle.flow_case_book.specs.Held.{case_of, keep_disk, trail_disk, start_of, said_in, is_broken};
+
     fn path(&self) -> &str {
         self.texts.path.as_str()
     }
 
-    fn core(&self) -> &Core {
-        self.scout.core()
+    fn core(&self) -> &Core
+        ensures { result.now ≡ run_of (case_of self.now) }
+    {
+        self.case.run().core()
+    }
+
+    fn policy_text(&self) -> Option<&[u8]> {
+        self.texts.lent().policy
     }
 
     fn policy(&self) -> Option<&Policy> {
-        match &self.scout {
+        match self.case.run() {
             CaseRun::Free(_) => None,
             CaseRun::UnderPolicy(ruled) => Some(ruled.policy()),
         }
@@ -204,7 +153,7 @@ impl<D: Disk, T: Disk> Book for CaseBook<D, T> {
     }
 
     fn is_final(&self, event: u32) -> bool {
-        match &self.scout {
+        match self.case.run() {
             CaseRun::Free(_) => false,
             CaseRun::UnderPolicy(ruled) => ruled.rules().is_final(event),
         }
@@ -212,7 +161,7 @@ impl<D: Disk, T: Disk> Book for CaseBook<D, T> {
 
     fn told(&self, place: usize) -> Option<Told<'_>> {
         let line = self.lines.get(place)?;
-        match self.trail.lines().get(*line)? {
+        match self.case.trail().lines().get(*line)? {
             TrailLine::Told(telling) => Some(Told {
                 at: telling.at.as_str(),
                 by: telling.by.as_str(),
@@ -223,44 +172,80 @@ impl<D: Disk, T: Disk> Book for CaseBook<D, T> {
     }
 
     fn look_ahead(&mut self) {
-        self.scout.look_ahead();
+        self.case.look_ahead();
     }
 
     fn steps_to_take(&mut self, alloc: Global, leaf: u32, by: u32) -> Result<Vec<u32>, AllocError> {
-        self.scout.look_ahead();
-        if self.scout.core().may_take(leaf).is_ok() || !waits_for_step(self.scout.core(), leaf) {
+        self.case.look_ahead();
+        if self.core().may_take(leaf).is_ok() || !waits_for_step(self.core(), leaf) {
             return Ok(Vec::new(alloc));
         }
-        match case_with(alloc, self.texts.lent(), self.scout.core().history()) {
-            Ok((mut twin, users)) => {
-                drop(users);
-                let steps = steps_to_take(alloc, &mut twin, leaf, by);
-                drop(twin);
-                steps
-            }
-            Err(stop) => {
-                drop(stop);
-                Err(AllocError)
-            }
-        }
+        let mut twin = self.twin(alloc)?;
+        let steps = steps_to_take(alloc, &mut twin, leaf, by);
+        drop(twin);
+        steps
     }
 
-    fn ask(&mut self, ask: Ask, speaker: Speaker<'_>) -> Answer {
-        if self.broken {
-            return Err(Refusal::Broken);
-        }
-        let before = self.scout.core().history().len();
-        let answer = self.scout.answer(ask, speaker.number);
-        let Some(entry) = entry_behind(self.scout.core(), before) else {
-            return answer;
+    fn tidy_steps(&mut self, alloc: Global, by: u32) -> Result<Vec<u32>, AllocError> {
+        let mut twin = self.twin(alloc)?;
+        let steps = tidy_steps(alloc, &mut twin, by);
+        drop(twin);
+        steps
+    }
+
+    fn is_ticked_off(&self, done: usize) -> bool {
+        let number = (done as u64).saturating_add(1);
+        self.case.trail().lines().iter().any(|line| match line {
+            TrailLine::Undone(undoing) => u64::from(undoing.entry) == number,
+            _ => false,
+        })
+    }
+
+    /// Ticks off the task that the entry at the place did, which is undone outside. The run stays as it is.
+    fn tick_off(&mut self, task: &str, done: usize, speaker: Speaker<'_>) -> Result<(), Refusal>
+        ensures broken { (result ≡ Err refusal.Broken) ↔ (is_broken self.old ≡ true) }
+        ensures refused { is_broken self.old ≡ false → is_broken self.new ≡ is_err result }
+        ensures run { case_of self.new ≡ case_of self.old }
+        ensures keep { keep_disk self.new ≡ keep_disk self.old }
+        ensures start { start_of self.new ≡ start_of self.old }
+        ensures told { done + 1 < 2 ^ 32 → is_broken self.old ≡ false → TellsLine T.tells T.moment T.image (start_of self.old) (said_in self.old)
+            (undone task.now (done + 1) speaker.entry.name.now speaker.entry.at.now) (trail_disk self.old) (trail_disk self.new) (said_in self.new) (is_broken self.new) }
+    {
+        let entry = u32::try_from(done).unwrap_or(u32::MAX).saturating_add(1);
+        let asker = Asker {
+            name: speaker.name,
+            at: speaker.at,
+            note: speaker.note,
         };
-        let kept = self.keep_entry(ask, entry, speaker);
-        match kept {
-            Err(Refusal::Broken) | Err(Refusal::Disk) => {
-                self.broken = true;
-                kept
-            }
-            _ => kept,
-        }
+        self.case.tick(self.alloc, task, entry, asker)
+    }
+
+    /// Asks the case one thing. The entry that comes of it is told on the trail, then kept, and only then answered.
+    fn ask(&mut self, ask: Ask, speaker: Speaker<'_>) -> Answer
+        ensures answer { KeepAnswers run_of CaseAnswers (is_broken self.old) (case_of self.old) ask speaker.entry.number result (is_broken self.new) (case_of self.new) }
+        ensures start { start_of self.new ≡ start_of self.old }
+        // where no entry comes, nothing is written
+        ensures idle { run_of (case_of self.new) ≡ run_of (case_of self.old) →
+            (keep_disk self.new ≡ keep_disk self.old) × (trail_disk self.new ≡ trail_disk self.old) × (said_in self.new ≡ said_in self.old) }
+        // where one comes, the trail tells it, and then the run is kept
+        ensures told { is_broken self.old ≡ false → (run_of (case_of self.new) ≡ run_of (case_of self.old)) ⊎ ((said : Said)
+            × (is_broken self.new ≡ false → TellsEntry (run_of (case_of self.old)) ask speaker.entry.number (run_of (case_of self.new))
+            (record { name = speaker.entry.name; at = speaker.entry.at; note = speaker.entry.note }) said)
+            × TellsLine T.tells T.moment T.image (start_of self.old) (said_in self.old) said (trail_disk self.old) (trail_disk self.new) (said_in self.new) (is_broken self.new)
+            × IsToldFirst T.tells T.moment T.image (start_of self.old) (said_in self.old) said (keep_disk self.old) (keep_disk self.new) (trail_disk self.new)) }
+        ensures kept { LeavesKept D.tells D.moment D.image D.seen D.chosen (run_of (case_of self.old)) (run_of (case_of self.new))
+            (keep_disk self.old) (keep_disk self.new) (is_broken self.old) (is_broken self.new) }
+    {
+        let before = self.case.run().core().history().len();
+        let line = self.case.trail().lines().len();
+        let asker = Asker {
+            name: speaker.name,
+            at: speaker.at,
+            note: speaker.note,
+        };
+        let answer = self.case.ask(self.alloc, ask, speaker.number, asker);
+        let count = self.case.run().core().history().len();
+        note_line(&mut self.lines, before, count, line);
+        answer
     }
 }

@@ -1,11 +1,17 @@
-//! A run of a case that is made again from its texts and its entries.
-ghost use Rattle.std.specs.Prelude.{◌≡◌, ◌≤◌, [], ◌∷◌, ℕ, List, length, IfOk, OnOk};
+//! The run of a case as it begins, made of its texts.
+ghost use Rattle.std.specs.Prelude.{◌≡◌, ◌≤◌, [], ◌∷◌, ◌++◌, ℕ, List, length, IfOk, OnOk};
+ghost use Rattle.std.specs.Option.{option_map};
 ghost use Rattle.flow_form.specs.Script.{Said, said};
-ghost use Rattle.flow_form.specs.Names.{IsClosed, event_names};
+ghost use Rattle.flow_form.specs.Names.{IsClosed};
+ghost use Rattle.flow_text.specs.Saying.{Says};
+ghost use Rattle.flow_text.specs.Parser.{bytes_now};
 ghost use Rattle.flow_workflow.specs.Definition.{schema_of};
+ghost use Rattle.flow_expand.specs.Workflows.{IsExpanded};
 ghost use Rattle.flow_plan.specs.Compilation.{IsCompiled};
-ghost use Rattle.flow_case.specs.CaseRun.{run_of};
+ghost use Rattle.flow_case.specs.declared.case_run.CaseRun.{CaseRun as Case};
 ghost use Rattle.flow_case.specs.CasePolicy.{IsCasePolicyOf};
+ghost use Rattle.flow_case.specs.CaseRun.{case_with as run_with};
+ghost use Rattle.flow_case_book.specs.Begun.{IsBegunRun, IsBegun, IsCaseOf};
 
 use crate::stop::CaseStop;
 use flow_case::{CasePolicy, CaseRun, Users, case_policy_of};
@@ -13,7 +19,6 @@ use flow_core::Core;
 use flow_form::Script;
 use flow_front::{Prepared, Refused, Stop, prepare};
 use flow_model::{Entry, GREATEST_INPUT};
-use flow_plan::Compiled;
 use flow_text::parse;
 use flow_workflow::Workflow;
 use std::alloc::Global;
@@ -31,7 +36,8 @@ pub(crate) const MOST_STEPS: u32 = 65_536;
 
 /// What the text of a workflow says.
 fn script_of(alloc: Global, text: &[u8]) -> Result<Script, CaseStop>
-    ensures { IfOk result (λ script. IsClosed (said script)) }
+    ensures says { IfOk result (λ script. Says text.now (said script)) }
+    ensures closed { IfOk result (λ script. IsClosed (said script)) }
 {
     if text.len() > GREATEST_INPUT {
         return Err(CaseStop::Workflow(Stop::Refused(Refused::TooLong)));
@@ -57,21 +63,21 @@ fn policy_of(
     Ok(case_policy_of(alloc, text, script, workflow)?)
 }
 
-/// The workflow of the texts, compiled.
-pub(crate) fn prepared(alloc: Global, texts: CaseTexts<'_>) -> Result<Prepared, CaseStop>
-    ensures { IfOk result (λ p. IsCompiled (schema_of p.workflow) p.compiled) }
+/// The workflow that the script says, compiled.
+pub(crate) fn prepared(alloc: Global, script: &Script) -> Result<Prepared, CaseStop>
+    requires { IsClosed (said script.now) }
+    ensures expanded { IfOk result (λ p. IsExpanded (said script.now) p.workflow) }
+    ensures compiled { IfOk result (λ p. IsCompiled (schema_of p.workflow) p.compiled) }
 {
-    let script = script_of(alloc, texts.workflow)?;
-    let prepared = prepare(alloc, &script);
-    drop(script);
-    Ok(prepared?)
+    Ok(prepare(alloc, script)?)
 }
 
-/// A run of the texts that has no entry yet.
-fn started(alloc: Global, workflow: Workflow, compiled: Compiled) -> Result<Core, CaseStop>
-    requires { IsCompiled (schema_of workflow) compiled }
-    ensures { IfOk result (λ core. (core.history ≡ []) × (core.definition ≡ workflow)) }
+/// The run of the script's workflow, with no entry.
+fn begun_run(alloc: Global, script: &Script) -> Result<Core, CaseStop>
+    requires { IsClosed (said script.now) }
+    ensures { IfOk result (λ core. IsBegunRun (said script.now) core) }
 {
+    let Prepared { workflow, compiled } = prepared(alloc, script)?;
     Ok(Core::start(alloc, workflow, compiled, MOST_STEPS)?)
 }
 
@@ -80,84 +86,92 @@ fn governed(
     alloc: Global,
     text: &[u8],
     script: &Script,
-    prepared: Prepared,
+    core: Core,
 ) -> Result<(CaseRun, Option<Users>), CaseStop>
-    requires compiled { IsCompiled (schema_of prepared.workflow) prepared.compiled }
-    requires events { event_names (said script.now).decls ≡ prepared.workflow.events }
-    ensures { IfOk result (λ case. (run_of case.0).history ≡ []) }
+    requires { IsBegunRun (said script.now) core }
+    ensures { IfOk result (λ case. IsBegun (said script.now) (Some text.now) case.0) }
 {
-    let Prepared { workflow, compiled } = prepared;
-    let policy = match policy_of(alloc, text, script, &workflow) {
-        Ok(policy) => policy,
-        Err(stop) => {
-            drop(workflow);
-            drop(compiled);
-            return Err(stop);
-        }
-    };
-    match started(alloc, workflow, compiled) {
-        Ok(core) => {
+    match policy_of(alloc, text, script, core.workflow()) {
+        Ok(policy) => {
             let (run, users) = policy.into_run(core);
             Ok((run, Some(users)))
         }
         Err(stop) => {
-            drop(policy);
+            drop(core);
             Err(stop)
         }
     }
 }
 
-/// The case of the texts, with no entry yet, and its users where it has a policy.
-fn empty_case(alloc: Global, texts: CaseTexts<'_>) -> Result<(CaseRun, Option<Users>), CaseStop>
-    ensures { IfOk result (λ case. (run_of case.0).history ≡ []) }
+/// The case of what the script says, with no entry yet, and its users where it has a policy.
+fn case_begun(
+    alloc: Global,
+    script: &Script,
+    policy: Option<&[u8]>,
+) -> Result<(CaseRun, Option<Users>), CaseStop>
+    requires { IsClosed (said script.now) }
+    ensures { IfOk result (λ case. IsBegun (said script.now) (option_map bytes_now policy.entry) case.0) }
+{
+    let core = begun_run(alloc, script)?;
+    match policy {
+        Some(text) => governed(alloc, text, script, core),
+        None => Ok((CaseRun::Free(core), None)),
+    }
+}
+
+/// What the texts of a case say.
+#[derive(Drop)]
+pub(crate) struct Begun {
+    pub(crate) script: Script,
+    /// The case with no entry yet.
+    pub(crate) run: CaseRun,
+    /// None where the case has no policy.
+    pub(crate) users: Option<Users>,
+}
+
+/// What the texts of a case say.
+pub(crate) fn begin(alloc: Global, texts: CaseTexts<'_>) -> Result<Begun, CaseStop>
+    ensures says { IfOk result (λ b. Says texts.entry.workflow.now (said b.script)) }
+    ensures closed { IfOk result (λ b. IsClosed (said b.script)) }
+    ensures begun { IfOk result (λ b. IsBegun (said b.script) (option_map bytes_now texts.entry.policy) b.run) }
 {
     let script = script_of(alloc, texts.workflow)?;
-    let prepared = match prepare(alloc, &script) {
-        Ok(prepared) => prepared,
+    match case_begun(alloc, &script, texts.policy) {
+        Ok((run, users)) => Ok(Begun { script, run, users }),
         Err(stop) => {
             drop(script);
-            return Err(CaseStop::Workflow(stop));
+            Err(stop)
         }
-    };
-    let case = match texts.policy {
-        Some(text) => governed(alloc, text, &script, prepared),
-        None => free(alloc, prepared),
-    };
-    drop(script);
-    case
+    }
 }
 
-/// The case of the run without a policy.
-fn free(alloc: Global, prepared: Prepared) -> Result<(CaseRun, Option<Users>), CaseStop>
-    requires { IsCompiled (schema_of prepared.workflow) prepared.compiled }
-    ensures { IfOk result (λ case. (run_of case.0).history ≡ []) }
-{
-    let Prepared { workflow, compiled } = prepared;
-    Ok((CaseRun::Free(started(alloc, workflow, compiled)?), None))
-}
-
-/// The case of the texts with these entries, and its users where it has a policy.
+/// The case of the texts with these entries.
 pub(crate) fn case_with(
     alloc: Global,
     texts: CaseTexts<'_>,
     entries: &[Entry],
-) -> Result<(CaseRun, Option<Users>), CaseStop>
-    ensures { IfOk result (λ case. (run_of case.0).history ≡ entries.now) }
+) -> Result<CaseRun, CaseStop>
+    ensures { IfOk result (λ case. (begun : Case) × IsCaseOf texts.entry.workflow.now (option_map bytes_now texts.entry.policy) begun
+        × (case ≡ run_with begun entries.now)) }
 {
-    let (mut run, users) = empty_case(alloc, texts)?;
+    let Begun { script, run, users } = begin(alloc, texts)?;
+    drop(script);
+    drop(users);
+    let mut run = run;
     match run.follow(entries) {
-        Ok(()) => Ok((run, users)),
+        Ok(()) => Ok(run),
         Err(index) => {
             drop(run);
-            drop(users);
             Err(CaseStop::Foreign(index))
         }
     }
 }
 
 /// Whether a case can be made of the texts.
-pub fn check_texts(alloc: Global, texts: CaseTexts<'_>) -> Result<(), CaseStop> {
-    let case = empty_case(alloc, texts)?;
+pub fn check_texts(alloc: Global, texts: CaseTexts<'_>) -> Result<(), CaseStop>
+    ensures { OnOk result ((begun : Case) × IsCaseOf texts.entry.workflow.now (option_map bytes_now texts.entry.policy) begun) }
+{
+    let case = case_with(alloc, texts, &[])?;
     drop(case);
     Ok(())
 }

@@ -8,6 +8,7 @@ mod opened;
 mod stop;
 
 pub use book::CaseBook;
+pub use flow_case_cli::Asker;
 pub use fresh::{CaseTexts, check_texts};
 pub use opened::{KeptTexts, open_case};
 pub use stop::CaseStop;

@@ -1,7 +1,6 @@
 -- The line of a trail that tells an entry of a run.
 use Rattle.std.specs.Prelude.{◌≡◌, ℕ, List, [], Option, Some, None}
 use Rattle.std.specs.Str.{IsUtf8}
-use Rattle.std.specs.String.{string_bytes}
 use Rattle.flow_model.specs.declared.history.Step.{Step}
 use Rattle.flow_model.specs.Verdict.{call_of}
 use Rattle.flow_ask.specs.declared.ask.Ask.{Ask}
@@ -37,7 +36,7 @@ IsTaskOf w (Some leaf) task = IsUtf8 (leaf_text w leaf) → task ≡ leaf_text w
 -- the line tells the step: by whom, when, what, of which task, with which note
 abbrev pub IsLineOf : Definition → Option ℕ → Step → Asker → Said → Type 0
 IsLineOf w leaf step asker said = (task : List ℕ) × IsTaskOf w leaf task
-    × (said ≡ told (string_bytes asker.at) (string_bytes asker.name) (step_text step) task (string_bytes asker.note))
+    × (said ≡ told asker.at.now asker.name.now (step_text step) task asker.note.now)
 
 -- the line tells the entry that came of the ask
 abbrev pub TellsEntry : Run → Ask → ℕ → Run → Asker → Said → Type 0

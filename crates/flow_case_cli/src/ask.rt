@@ -23,17 +23,19 @@ impl<D: Disk, T: Disk> Case<D, T> {
 
     /// Asks the case one thing. The entry that comes of it is told in the trail, then kept, and only then answered. Where a disk fails, or
     /// memory is wanting once the run has answered, the case is broken: nothing is done any more, and it has to be opened again.
-    pub fn ask(&mut self, alloc: Global, ask: Ask, by: u32, asker: &Asker) -> Answer
+    pub fn ask(&mut self, alloc: Global, ask: Ask, by: u32, asker: Asker<'_>) -> Answer
         requires keep_faults { is_broken self.old ≡ false → D.faults (keep_disk self.old) < 2 ^ 64 - 1 }
         requires trail_faults { is_broken self.old ≡ false → T.faults (trail_disk self.old) < 2 ^ 64 - 1 }
         ensures answer { KeepAnswers run_of CaseAnswers (is_broken self.old) (case_of self.old) ask by result (is_broken self.new) (case_of self.new) }
         ensures start { start_of self.new ≡ start_of self.old }
+        ensures keep_faults { is_broken self.new ≡ false → D.faults (keep_disk self.new) ≡ D.faults (keep_disk self.old) }
+        ensures trail_faults { is_broken self.new ≡ false → T.faults (trail_disk self.new) ≡ T.faults (trail_disk self.old) }
         // where no entry comes, nothing is written
         ensures idle { run_of (case_of self.new) ≡ run_of (case_of self.old) →
             (keep_disk self.new ≡ keep_disk self.old) × (trail_disk self.new ≡ trail_disk self.old) × (said_in self.new ≡ said_in self.old) }
         // where one comes, the trail tells it, and then the run is kept
         ensures told { is_broken self.old ≡ false → (run_of (case_of self.new) ≡ run_of (case_of self.old)) ⊎ ((said : Said)
-            × (is_broken self.new ≡ false → TellsEntry (run_of (case_of self.old)) ask by (run_of (case_of self.new)) asker.now said)
+            × (is_broken self.new ≡ false → TellsEntry (run_of (case_of self.old)) ask by (run_of (case_of self.new)) asker.entry said)
             × TellsLine T.tells T.moment T.image (start_of self.old) (said_in self.old) said (trail_disk self.old) (trail_disk self.new) (said_in self.new) (is_broken self.new)
             × IsToldFirst T.tells T.moment T.image (start_of self.old) (said_in self.old) said (keep_disk self.old) (keep_disk self.new) (trail_disk self.new)) }
         ensures kept { LeavesKept D.tells D.moment D.image D.seen D.chosen (run_of (case_of self.old)) (run_of (case_of self.new))

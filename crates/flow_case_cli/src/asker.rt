@@ -1,8 +1,8 @@
 /// Who asks, when, and what is noted of it.
-#[derive(Drop)]
-pub struct Asker {
-    pub name: String,
+#[derive(Clone, Copy)]
+pub struct Asker<'a> {
+    pub name: &'a str,
     /// As it is told: no clock is asked here.
-    pub at: String,
-    pub note: String,
+    pub at: &'a str,
+    pub note: &'a str,
 }

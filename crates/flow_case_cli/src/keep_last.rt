@@ -26,6 +26,7 @@ pub(crate) fn keep_last<D: Disk>(
         × HasOneMore (run_of keep.old) ask by core.now) }
     ensures run { run_of keep.new ≡ core.now }
     ensures whole { OnOk result (is_broken keep.new ≡ false) }
+    ensures faults { OnOk result (D.faults (disk_of keep.new) ≡ D.faults (disk_of keep.old)) }
     ensures refused { IsErr result → result ≡ Err refusal.Disk }
     ensures made { IsErr result → HasOneMore (run_of keep.old) ask by core.now }
     ensures idle { core.now ≡ run_of keep.old → disk_of keep.new ≡ disk_of keep.old }

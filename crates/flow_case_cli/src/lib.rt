@@ -6,10 +6,12 @@ mod asker;
 mod case;
 mod keep_last;
 mod line;
+mod look;
 mod resume;
 mod tell;
+mod tick;
 
 pub use asker::Asker;
 pub use case::Case;
-pub use line::step_words;
+pub use line::{step_words, task_name};
 pub use resume::Unresumed;

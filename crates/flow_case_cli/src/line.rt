@@ -3,7 +3,7 @@ ghost use Rattle.std.specs.Prelude.{◌≡◌, ◌++◌, IfOk, OnOk};
 ghost use Rattle.std.specs.String.{string_bytes};
 ghost use Rattle.flow_record.specs.History.{step_text};
 ghost use Rattle.flow_trail.specs.Lines.{said_of};
-ghost use Rattle.flow_case_cli.specs.Line.{IsTaskOf, IsLeafOf, IsLeafOfClaim};
+ghost use Rattle.flow_case_cli.specs.Line.{IsLineOf, IsTaskOf, IsLeafOf, IsLeafOfClaim};
 
 use crate::asker::Asker;
 use flow_ask::Ask;
@@ -14,27 +14,23 @@ use flow_trail::{Telling, TrailLine};
 use flow_workflow::Workflow;
 use std::alloc::{AllocError, Global};
 
-impl Asker {
-    ghost use Rattle.flow_case_cli.specs.Line.{IsLineOf};
-
-    /// The line that tells the step, of that leaf.
-    pub(crate) fn line(
-        &self,
-        alloc: Global,
-        workflow: &Workflow,
-        leaf: Option<u32>,
-        step: Step,
-    ) -> Result<TrailLine, AllocError>
-        ensures { IfOk result (λ line. IsLineOf workflow.now leaf step self.now (said_of line)) }
-    {
-        Ok(TrailLine::Told(Telling {
-            at: String::from_str(alloc, self.at.as_str())?,
-            by: String::from_str(alloc, self.name.as_str())?,
-            entry: step_words(alloc, step)?,
-            task: task_name(alloc, workflow, leaf)?,
-            note: String::from_str(alloc, self.note.as_str())?,
-        }))
-    }
+/// The line that tells the step, of that leaf.
+pub(crate) fn line_of(
+    alloc: Global,
+    workflow: &Workflow,
+    leaf: Option<u32>,
+    step: Step,
+    asker: Asker<'_>,
+) -> Result<TrailLine, AllocError>
+    ensures { IfOk result (λ line. IsLineOf workflow.now leaf step asker.entry (said_of line)) }
+{
+    Ok(TrailLine::Told(Telling {
+        at: String::from_str(alloc, asker.at)?,
+        by: String::from_str(alloc, asker.name)?,
+        entry: step_words(alloc, step)?,
+        task: task_name(alloc, workflow, leaf)?,
+        note: String::from_str(alloc, asker.note)?,
+    }))
 }
 
 /// The step in words, as a history has it.
@@ -68,7 +64,11 @@ fn push_step(text: &mut String, step: Step) -> Result<(), AllocError>
 }
 
 /// The name of the leaf's task, which is its label; none without a leaf.
-fn task_name(alloc: Global, workflow: &Workflow, leaf: Option<u32>) -> Result<String, AllocError>
+pub fn task_name(
+    alloc: Global,
+    workflow: &Workflow,
+    leaf: Option<u32>,
+) -> Result<String, AllocError>
     ensures { IfOk result (λ text. IsTaskOf workflow.now leaf (string_bytes text)) }
 {
     let Some(leaf) = leaf else {

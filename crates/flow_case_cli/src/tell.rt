@@ -9,6 +9,7 @@ ghost use Rattle.flow_case_cli.specs.Line.{IsLineOf};
 ghost use Rattle.flow_case_cli.specs.Asked.{TellsLine};
 
 use crate::asker::Asker;
+use crate::line::line_of;
 use flow_ask::Refusal;
 use flow_core::Core;
 use flow_disk::Disk;
@@ -22,7 +23,7 @@ pub(crate) fn tell_last<T: Disk>(
     core: &Core,
     count: usize,
     leaf: Option<u32>,
-    asker: &Asker,
+    asker: Asker<'_>,
 ) -> Result<(), Refusal>
     requires whole { is_broken trail.old ≡ false }
     requires faults { T.faults (disk_of trail.old) < 2 ^ 64 - 1 }
@@ -30,9 +31,10 @@ pub(crate) fn tell_last<T: Disk>(
     ensures start { start_of trail.new ≡ start_of trail.old }
     ensures refused { IsErr result → result ≡ Err refusal.Disk }
     ensures whole { OnOk result (is_broken trail.new ≡ false) }
+    ensures faults { OnOk result (T.faults (disk_of trail.new) ≡ T.faults (disk_of trail.old)) }
     ensures idle { length core.now.history ≡ count → (result ≡ Ok tt) × (trail.new ≡ trail.old) }
     ensures told { count < length core.now.history → (said : Said)
-        × (is_err result ≡ false → (entry : Entry) → slice_get core.now.history count ≡ Some entry → IsLineOf core.now.definition leaf entry.step asker.now said)
+        × (is_err result ≡ false → (entry : Entry) → slice_get core.now.history count ≡ Some entry → IsLineOf core.now.definition leaf entry.step asker.entry said)
         × TellsLine T.tells T.moment T.image (start_of trail.old) (said_in trail.old) said (disk_of trail.old) (disk_of trail.new) (said_in trail.new) (is_err result) }
 {
     let history = core.history();
@@ -40,7 +42,7 @@ pub(crate) fn tell_last<T: Disk>(
         return Ok(());
     }
     let step = history[count].step;
-    let Ok(line) = asker.line(alloc, core.workflow(), leaf, step) else {
+    let Ok(line) = line_of(alloc, core.workflow(), leaf, step, asker) else {
         return Err(Refusal::Disk);
     };
     match trail.tell(alloc, line) {

@@ -1,6 +1,7 @@
 use crate::book::{Book, Speaker};
-use crate::page::{Form, Page};
-use crate::todo::label_of;
+use crate::details::push_details;
+use crate::page::Page;
+use crate::todo::{key_of, label_of};
 use flow_ask::{Answer, Ask, Made, Refusal};
 use flow_case_words::print_reply;
 use flow_model::Step;
@@ -12,13 +13,13 @@ use std::alloc::{AllocError, Global};
 #[derive(Drop)]
 pub(crate) struct Asked {
     pub(crate) ask: Ask,
+    /// The leaf that it was about, or that its refusal names.
+    pub(crate) leaf: Option<u32>,
     /// The task or step that it was about.
     pub(crate) task: Vec<u8>,
     pub(crate) answer: Answer,
     /// What a step back took, if it was one.
     pub(crate) taken: Vec<TakenBack>,
-    /// How long the history was before it.
-    pub(crate) before: usize,
 }
 
 /// The leaf that the ask is about, or that its refusal names.
@@ -46,14 +47,14 @@ fn leaf_of_claim<B: Book>(book: &B, claim: u32) -> Option<u32> {
     None
 }
 
-/// The name of what the ask is about, and the number where it has none.
+/// The name of the leaf that the ask is about, and the number where it has none.
 fn task_of<B: Book>(
     alloc: Global,
     book: &B,
     ask: Ask,
-    answer: &Answer,
+    leaf: Option<u32>,
 ) -> Result<Vec<u8>, AllocError> {
-    match leaf_of(book, ask, answer) {
+    match leaf {
         Some(leaf) if leaf < book.core().workflow().tree().leaves() => label_of(alloc, book, leaf),
         _ => numbered(alloc, ask),
     }
@@ -80,7 +81,8 @@ pub(crate) fn ask_one<B: Book>(
 ) -> Result<Asked, AllocError> {
     let before = book.core().history().len();
     let answer = book.ask(ask, speaker);
-    let task = task_of(alloc, book, ask, &answer)?;
+    let leaf = leaf_of(book, ask, &answer);
+    let task = task_of(alloc, book, ask, leaf)?;
     let mut taken = Vec::new(alloc);
     if let Ok(Made::Rewound(_)) = answer {
         for one in taken_back(alloc, book.core())?.iter() {
@@ -91,10 +93,10 @@ pub(crate) fn ask_one<B: Book>(
     }
     Ok(Asked {
         ask,
+        leaf,
         task,
         answer,
         taken,
-        before,
     })
 }
 
@@ -107,6 +109,7 @@ pub(crate) fn asked_words<B: Book>(
 ) -> Result<Vec<u8>, AllocError> {
     let mut page = Page::new(alloc);
     page.bytes(&print_reply(alloc, speaker.name.as_bytes(), &asked.task, &asked.answer)?)?;
+    push_details(alloc, &mut page, book, asked)?;
     if is_final_done(book, asked) {
         page.text(", for good: no step back goes over it")?;
     }
@@ -121,10 +124,7 @@ pub(crate) fn asked_words<B: Book>(
 
 /// Whether a final event was done.
 fn is_final_done<B: Book>(book: &B, asked: &Asked) -> bool {
-    let (Ask::Done(claim), Ok(Made::Done)) = (asked.ask, asked.answer) else {
-        return false;
-    };
-    let Some(leaf) = leaf_of_claim(book, claim) else {
+    let (Some(leaf), Ok(Made::Done)) = (asked.leaf, asked.answer) else {
         return false;
     };
     match book.core().workflow().tree().event(leaf) {
@@ -163,11 +163,7 @@ pub(crate) fn push_made<B: Book>(
         page.member("attempt")?;
         page.number(call.attempt)?;
         page.member("key")?;
-        let mut key = Page::new(alloc);
-        key.text(book.path())?;
-        key.text("/")?;
-        key.bytes(&asked.task)?;
-        page.quoted(&key.into_text())?;
+        page.quoted(&key_of(alloc, book, call.leaf)?)?;
     }
     if asked.taken.is_empty() {
         return Ok(());

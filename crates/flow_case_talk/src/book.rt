@@ -1,4 +1,4 @@
-use flow_ask::{Answer, Ask};
+use flow_ask::{Answer, Ask, Refusal};
 use flow_core::Core;
 use flow_policy::Policy;
 use std::alloc::{AllocError, Global};
@@ -34,6 +34,9 @@ pub trait Book {
     /// Who may take what, where the case has a policy.
     fn policy(&self) -> Option<&Policy>;
 
+    /// The text of its policy.
+    fn policy_text(&self) -> Option<&[u8]>;
+
     /// How many users the case knows, from 1 on.
     fn users(&self) -> u32;
 
@@ -51,6 +54,15 @@ pub trait Book {
 
     /// The tests and updates that are to be done before a claim on the leaf is given. Nothing is done.
     fn steps_to_take(&mut self, alloc: Global, leaf: u32, by: u32) -> Result<Vec<u32>, AllocError>;
+
+    /// The updates that close off no choice, one after another. Nothing is done.
+    fn tidy_steps(&mut self, alloc: Global, by: u32) -> Result<Vec<u32>, AllocError>;
+
+    /// Whether the task that the entry at the place did is ticked off: it was taken back, and is undone outside.
+    fn is_ticked_off(&self, done: usize) -> bool;
+
+    /// Ticks off the task that the entry at the place did. This is kept before it is answered.
+    fn tick_off(&mut self, task: &str, done: usize, speaker: Speaker<'_>) -> Result<(), Refusal>;
 
     /// Asks one thing. What came of it is kept before it is answered.
     fn ask(&mut self, ask: Ask, speaker: Speaker<'_>) -> Answer;

@@ -2,14 +2,18 @@
 #![tactic(auto)]
 
 mod asked;
+mod begun;
 mod book;
+mod details;
 mod looks;
 mod page;
 mod refused;
 mod reply;
+mod ticks;
 mod todo;
+mod who;
 
 pub use book::{Book, Speaker, Told};
 pub use page::Form;
-pub use reply::{Reply, respond};
+pub use reply::{Outcome, Reply, respond};
 pub use todo::begin_line;

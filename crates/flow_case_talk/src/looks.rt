@@ -1,15 +1,13 @@
-use crate::asked::push_taken;
-use crate::book::Book;
+use crate::book::{Book, Told};
+use crate::details::push_reason;
 use crate::page::{Form, Page};
-use crate::refused::unmeant_words;
+use crate::ticks::undone_text;
 use crate::todo::{label_of, todo_text};
 use flow_ask::Look;
 use flow_model::{Entry, Step};
-use flow_names::{Command, TaskRef, leaf_of_task};
-use flow_reason::why_leaf;
+use flow_names::Command;
 use flow_record::print_history;
 use flow_reply::{print_look, print_report, verdict_of};
-use flow_standing::taken_back;
 use std::alloc::{AllocError, Global};
 
 /// What a command shows that asks nothing of the run.
@@ -21,40 +19,54 @@ pub(crate) fn look_text<B: Book>(
 ) -> Result<Vec<u8>, AllocError> {
     match command {
         Command::Todo => todo_text(alloc, book, form),
-        Command::Why(task) => why_text(alloc, book, task),
         Command::History => history_text(alloc, book, form),
         Command::Undone => undone_text(alloc, book, form),
-        Command::Facts => facts_text(alloc, book),
-        Command::Report => print_report(alloc, book.core(), &verdict_of(book.core())),
+        Command::Facts => shown(
+            alloc,
+            form,
+            &print_look(alloc, book.core(), Look::Facts)?,
+            "\n",
+        ),
         _ => {
-            let mut page = Page::new(alloc);
-            page.text("refused: this command is not there yet\n")?;
-            Ok(page.into_text())
+            let report = print_report(alloc, book.core(), &verdict_of(book.core()))?;
+            shown(alloc, form, &report, "")
         }
     }
 }
 
-fn facts_text<B: Book>(alloc: Global, book: &B) -> Result<Vec<u8>, AllocError> {
+/// Words that are shown, with what ends them; or the same as an object.
+pub(crate) fn shown(
+    alloc: Global,
+    form: Form,
+    words: &[u8],
+    end: &str,
+) -> Result<Vec<u8>, AllocError> {
     let mut page = Page::new(alloc);
-    page.bytes(&print_look(alloc, book.core(), Look::Facts)?)?;
-    page.text("\n")?;
+    match form {
+        Form::Words => {
+            page.bytes(words)?;
+            page.text(end)?;
+        }
+        Form::Json => {
+            page.text("{\"ok\":true,\"reply\":")?;
+            page.quoted(words)?;
+            page.text("}\n")?;
+        }
+    }
     Ok(page.into_text())
 }
 
-fn why_text<B: Book>(alloc: Global, book: &mut B, task: &TaskRef) -> Result<Vec<u8>, AllocError> {
+/// Why the leaf is not taken or done now.
+pub(crate) fn why_text<B: Book>(
+    alloc: Global,
+    book: &mut B,
+    leaf: u32,
+    form: Form,
+) -> Result<Vec<u8>, AllocError> {
     book.look_ahead();
     let mut page = Page::new(alloc);
-    match leaf_of_task(alloc, book.core(), task) {
-        Ok(leaf) => {
-            let reason = why_leaf(alloc, book.core(), leaf)?;
-            let mut words = Vec::new(alloc);
-            reason.print(&mut words, book.core().workflow(), leaf)?;
-            page.bytes(&words)?;
-        }
-        Err(refusal) => page.bytes(&unmeant_words(alloc, book, refusal)?)?,
-    }
-    page.text("\n")?;
-    Ok(page.into_text())
+    push_reason(alloc, &mut page, book, leaf)?;
+    shown(alloc, form, &page.into_text(), "\n")
 }
 
 /// The leaves on which claims were given, by the numbers of these, which begin at 1.
@@ -99,6 +111,9 @@ fn step_word(step: Step) -> &'static str {
 fn history_text<B: Book>(alloc: Global, book: &B, form: Form) -> Result<Vec<u8>, AllocError> {
     let taken = leaves_taken(alloc, book)?;
     let mut page = Page::new(alloc);
+    if form == Form::Words {
+        page.text("   n  when                  who       what\n")?;
+    }
     for (place, entry) in book.core().history().iter().enumerate() {
         match form {
             Form::Words => push_entry(alloc, &mut page, book, &taken, place, *entry)?,
@@ -117,24 +132,24 @@ fn push_entry<B: Book>(
     place: usize,
     entry: Entry,
 ) -> Result<(), AllocError> {
-    page.ordinal(place)?;
-    page.text("  ")?;
+    page.place(place)?;
     let told = book.told(place);
     if let Some(told) = told {
         page.column(told.at.as_bytes(), 20)?;
         page.column(told.by.as_bytes(), 8)?;
     }
-    page.text(step_word(entry.step))?;
+    let mut what = Page::new(alloc);
+    what.text(step_word(entry.step))?;
     if let Some(leaf) = leaf_of_entry(taken, entry) {
-        page.text(" ")?;
-        page.bytes(&label_of(alloc, book, leaf)?)?;
+        what.text(" ")?;
+        what.bytes(&label_of(alloc, book, leaf)?)?;
     }
     match told {
         Some(told) if told.note != "" => {
-            page.text("  ")?;
+            page.column(&what.into_text(), 24)?;
             page.text(told.note)
         }
-        _ => Ok(()),
+        _ => page.bytes(&what.into_text()),
     }
 }
 
@@ -160,26 +175,11 @@ fn push_entry_object<B: Book>(
         page.member("task")?;
         page.quoted(&label_of(alloc, book, leaf)?)?;
     }
-    page.text("}")
-}
-
-/// What steps back took, and is to be undone outside.
-fn undone_text<B: Book>(alloc: Global, book: &B, form: Form) -> Result<Vec<u8>, AllocError> {
-    let mut page = Page::new(alloc);
-    for taken in taken_back(alloc, book.core())?.iter() {
-        match form {
-            Form::Words => push_taken(alloc, &mut page, book, taken)?,
-            Form::Json => {
-                page.text("{\"task\":")?;
-                page.quoted(&label_of(alloc, book, taken.leaf)?)?;
-                page.member("claim")?;
-                page.number(taken.claim)?;
-                page.member("by")?;
-                page.quoted(book.user_name(taken.by).as_bytes())?;
-                page.text("}")?;
-            }
+    if let Some(Told { note, .. }) = book.told(place) {
+        if note != "" {
+            page.member("note")?;
+            page.quoted(note.as_bytes())?;
         }
-        page.text("\n")?;
     }
-    Ok(page.into_text())
+    page.text("}")
 }

@@ -43,6 +43,17 @@ impl Page {
         self.text(digits.format((place as u64).saturating_add(1)))
     }
 
+    /// Adds the number of what stands at a place that is counted from 0, as the first of some columns.
+    pub(crate) fn place(&mut self, place: usize) -> Result<(), AllocError> {
+        let mut digits = Buffer::new();
+        let number = digits.format((place as u64).saturating_add(1));
+        for _ in number.len()..4 {
+            self.text(" ")?;
+        }
+        self.text(number)?;
+        self.text("  ")
+    }
+
     /// Adds the text, and blanks up to the width.
     pub(crate) fn column(&mut self, text: &[u8], width: usize) -> Result<(), AllocError> {
         self.bytes(text)?;

@@ -1,7 +1,7 @@
 use crate::book::Book;
 use crate::page::{Form, Page};
 use crate::todo::label_of;
-use flow_names::{CommandRefusal, NameRefusal};
+use flow_names::{CommandRefusal, NameRefusal, Verb};
 use std::alloc::{AllocError, Global};
 
 /// Adds the front of an object that tells a refusal.
@@ -47,7 +47,10 @@ pub(crate) fn unread_words(
             page.text("?")?;
         }
         CommandRefusal::Unknown { near: None } => page.text(
-            "there are take, done, fail, do, rewind, commit, todo, why, history, undone, facts, report",
+            "there are take, done, fail, do, rewind, commit, tidy, todo, why, history, undone, facts, report",
+        )?,
+        CommandRefusal::Missing { verb: Verb::Undone } => page.text(
+            "undone TASK --ok tells that it is undone: --ok is missing",
         )?,
         CommandRefusal::Missing { verb } => {
             page.text(verb.word())?;

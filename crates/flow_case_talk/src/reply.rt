@@ -1,21 +1,32 @@
 use crate::asked::{Asked, ask_one, asked_words, push_entries, push_made};
 use crate::book::{Book, Speaker};
-use crate::looks::look_text;
+use crate::looks::{look_text, why_text};
 use crate::page::{Form, Page};
 use crate::refused::{refused_text, unmeant_words, unread_words};
-use crate::todo::begin_line;
+use crate::ticks::{taken_meant, tick_off};
+use crate::todo::{begin_line, label_of};
 use flow_ask::{Ask, Refusal};
 use flow_case_words::refusal_word;
 use flow_names::{Command, NameRefusal, TaskRef, leaf_of_task, meaning, read_command};
+use flow_standing::TakenBack;
 use std::alloc::{AllocError, Global};
+
+/// What came of a line.
+#[derive(Clone, Copy, Debug, PartialEq, Eq)]
+pub enum Outcome {
+    /// Something was shown.
+    Shown,
+    /// What was asked is made, and kept.
+    Made,
+    Refused,
+}
 
 /// What a case replies to a line.
 #[derive(Drop)]
 pub struct Reply {
     /// Whole lines.
     pub text: Vec<u8>,
-    /// Whether the line was refused.
-    pub refused: bool,
+    pub outcome: Outcome,
 }
 
 /// Replies to a line. What it asks of the run is kept before the reply is given.
@@ -33,12 +44,21 @@ pub fn respond<B: Book>(
             return refuse(alloc, form, "words", &words);
         }
     };
-    match asks_of(alloc, book, speaker, &command) {
-        Ok(asks) if asks.is_empty() => Ok(Reply {
+    match plan_of(alloc, book, speaker, &command) {
+        Ok(Plan::Show) => Ok(Reply {
             text: look_text(alloc, book, &command, form)?,
-            refused: false,
+            outcome: Outcome::Shown,
         }),
-        Ok(asks) => ask_all(alloc, book, speaker, &asks, form),
+        Ok(Plan::Why(leaf)) => Ok(Reply {
+            text: why_text(alloc, book, leaf, form)?,
+            outcome: Outcome::Shown,
+        }),
+        Ok(Plan::Ask(asks)) => ask_all(alloc, book, speaker, &asks, form),
+        Ok(Plan::TickOff(Some(taken))) => tick(alloc, book, speaker, &taken, form),
+        Ok(Plan::TickOff(None)) => {
+            let words = b"refused: no step back took that, or it is undone already";
+            refuse(alloc, form, "name", words)
+        }
         Err(refusal) => {
             let words = unmeant_words(alloc, book, refusal)?;
             refuse(alloc, form, "name", &words)
@@ -49,22 +69,40 @@ pub fn respond<B: Book>(
 fn refuse(alloc: Global, form: Form, word: &str, words: &[u8]) -> Result<Reply, AllocError> {
     Ok(Reply {
         text: refused_text(alloc, form, word, words)?,
-        refused: true,
+        outcome: Outcome::Refused,
     })
 }
 
-/// The asks that a command means, one after another; none where it only shows something.
-fn asks_of<B: Book>(
+/// What is done for a command.
+#[derive(Drop)]
+enum Plan {
+    /// Something is shown, and nothing asked.
+    Show,
+    /// It is told why the leaf waits.
+    Why(u32),
+    /// These are asked one after another.
+    Ask(Vec<Ask>),
+    /// What a step back took is ticked off, if it is found.
+    TickOff(Option<TakenBack>),
+}
+
+fn plan_of<B: Book>(
     alloc: Global,
     book: &mut B,
     speaker: Speaker<'_>,
     command: &Command,
-) -> Result<Vec<Ask>, NameRefusal> {
+) -> Result<Plan, NameRefusal> {
     match command {
         Command::Take(task) => asks_to_take(alloc, book, speaker, task),
+        Command::Tidy => {
+            let steps = book.tidy_steps(alloc, speaker.number)?;
+            Ok(Plan::Ask(asks_of(alloc, &steps)?))
+        }
+        Command::Why(task) => Ok(Plan::Why(leaf_of_task(alloc, book.core(), task)?)),
+        Command::TickOff(claim) => Ok(Plan::TickOff(taken_meant(alloc, book, claim)?)),
         _ => match meaning(alloc, book.core(), command)? {
-            Some(ask) => Ok(asks_with(alloc, &[], ask)?),
-            None => Ok(Vec::new(alloc)),
+            Some(ask) => Ok(Plan::Ask(asks_with(alloc, &[], ask)?)),
+            None => Ok(Plan::Show),
         },
     }
 }
@@ -75,19 +113,25 @@ fn asks_to_take<B: Book>(
     book: &mut B,
     speaker: Speaker<'_>,
     task: &TaskRef,
-) -> Result<Vec<Ask>, NameRefusal> {
+) -> Result<Plan, NameRefusal> {
     let leaf = leaf_of_task(alloc, book.core(), task)?;
     let steps = book.steps_to_take(alloc, leaf, speaker.number)?;
-    Ok(asks_with(alloc, &steps, Ask::Take(leaf))?)
+    Ok(Plan::Ask(asks_with(alloc, &steps, Ask::Take(leaf))?))
 }
 
-/// The leaves that are to be done, and one ask behind them.
+/// That these leaves are to be done, and one ask behind them.
 fn asks_with(alloc: Global, steps: &[u32], last: Ask) -> Result<Vec<Ask>, AllocError> {
+    let mut asks = asks_of(alloc, steps)?;
+    asks.push(last)?;
+    Ok(asks)
+}
+
+/// That these leaves are to be done.
+fn asks_of(alloc: Global, steps: &[u32]) -> Result<Vec<Ask>, AllocError> {
     let mut asks = Vec::new(alloc);
     for step in steps {
         asks.push(Ask::Do(*step))?;
     }
-    asks.push(last)?;
     Ok(asks)
 }
 
@@ -101,44 +145,48 @@ fn ask_all<B: Book>(
 ) -> Result<Reply, AllocError> {
     let from = book.core().history().len();
     let mut words = Page::new(alloc);
-    for (index, ask) in asks.iter().enumerate() {
+    let mut last = None;
+    for ask in asks {
         let asked = ask_one(alloc, book, *ask, speaker)?;
         words.bytes(&asked_words(alloc, book, speaker, &asked)?)?;
-        if index + 1 == asks.len() || asked.answer.is_err() {
-            return told(alloc, book, &asked, words, from, form);
+        if let Err(refusal) = asked.answer {
+            return refused_ask(alloc, book, refusal, words, from, form);
         }
+        last = Some(asked);
+    }
+    if asks.is_empty() {
+        words.text("nothing is to be tidied\n")?;
     }
     Ok(Reply {
-        text: words.into_text(),
-        refused: false,
+        text: made_text(alloc, book, &last, words, from, form)?,
+        outcome: Outcome::Made,
     })
 }
 
-/// The reply whose last ask came to this.
-fn told<B: Book>(
+/// The reply where the last ask was refused.
+fn refused_ask<B: Book>(
     alloc: Global,
-    book: &mut B,
-    asked: &Asked,
+    book: &B,
+    refusal: Refusal,
     words: Page,
     from: usize,
     form: Form,
 ) -> Result<Reply, AllocError> {
-    match asked.answer {
-        Ok(_) => Ok(Reply {
-            text: made_text(alloc, book, asked, words, from, form)?,
-            refused: false,
-        }),
-        Err(refusal) => Ok(Reply {
-            text: refused_object(alloc, book, refusal, words, from, form)?,
-            refused: true,
-        }),
-    }
+    let words = words.into_text();
+    let text = match form {
+        Form::Words => words,
+        Form::Json => refused_object(alloc, book, refusal, &words, from)?,
+    };
+    Ok(Reply {
+        text,
+        outcome: Outcome::Refused,
+    })
 }
 
 fn made_text<B: Book>(
     alloc: Global,
     book: &mut B,
-    asked: &Asked,
+    last: &Option<Asked>,
     words: Page,
     from: usize,
     form: Form,
@@ -154,7 +202,9 @@ fn made_text<B: Book>(
             page.text("{\"ok\":true")?;
             page.member("entries")?;
             push_entries(alloc, &mut page, book, from)?;
-            push_made(alloc, &mut page, book, asked)?;
+            if let Some(asked) = last {
+                push_made(alloc, &mut page, book, asked)?;
+            }
             push_reply(&mut page, &words)?;
         }
     }
@@ -165,21 +215,16 @@ fn refused_object<B: Book>(
     alloc: Global,
     book: &B,
     refusal: Refusal,
-    words: Page,
+    words: &[u8],
     from: usize,
-    form: Form,
 ) -> Result<Vec<u8>, AllocError> {
-    let words = words.into_text();
-    if form == Form::Words {
-        return Ok(words);
-    }
     let mut page = Page::new(alloc);
     page.text("{\"ok\":false")?;
     page.member("refused")?;
     page.quoted(refusal_word(refusal).as_bytes())?;
     page.member("entries")?;
     push_entries(alloc, &mut page, book, from)?;
-    push_reply(&mut page, &words)?;
+    push_reply(&mut page, words)?;
     Ok(page.into_text())
 }
 
@@ -188,4 +233,37 @@ fn push_reply(page: &mut Page, words: &[u8]) -> Result<(), AllocError> {
     page.member("reply")?;
     page.quoted(words)?;
     page.text("}\n")
+}
+
+/// Ticks off what was taken back, and replies.
+fn tick<B: Book>(
+    alloc: Global,
+    book: &mut B,
+    speaker: Speaker<'_>,
+    taken: &TakenBack,
+    form: Form,
+) -> Result<Reply, AllocError> {
+    let (kept, words) = tick_off(alloc, book, speaker, taken)?;
+    if let Err(refusal) = kept {
+        return refuse(alloc, form, refusal_word(refusal), &words);
+    }
+    let mut page = Page::new(alloc);
+    match form {
+        Form::Words => {
+            page.bytes(&words)?;
+            page.text("\n")?;
+        }
+        Form::Json => {
+            page.text("{\"ok\":true,\"entries\":[]")?;
+            page.member("task")?;
+            page.quoted(&label_of(alloc, book, taken.leaf)?)?;
+            page.member("claim")?;
+            page.number(taken.claim)?;
+            push_reply(&mut page, &words)?;
+        }
+    }
+    Ok(Reply {
+        text: page.into_text(),
+        outcome: Outcome::Made,
+    })
 }

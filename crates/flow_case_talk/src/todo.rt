@@ -1,18 +1,32 @@
+use crate::begun::{Beginning, CaseTodo, Later, case_todo, later_tasks, takers};
 use crate::book::Book;
 use crate::page::{Form, Page};
-use flow_names::{State, Todo, todo_of};
-use flow_staff::may_take;
+use crate::who::who_may;
+use flow_model::Step;
+use flow_names::{OutTask, State};
 use flow_workflow::push_leaf_label;
 use std::alloc::{AllocError, Global};
 
-/// The word of a state.
-fn state_word(state: State) -> &'static str {
-    match state {
+/// The word of how a case stands.
+fn state_word(todo: &CaseTodo) -> &'static str {
+    match todo.todo.state {
+        State::Open if todo.is_barred => "stuck_by_duties",
         State::Open => "open",
         State::Waiting => "waiting",
         State::Finished => "finished",
         State::Stuck => "stuck",
         State::Committed => "committed",
+    }
+}
+
+/// How a case stands, in words.
+fn state_words(todo: &CaseTodo) -> &'static str {
+    match todo.todo.state {
+        State::Open if todo.is_barred => "stuck: duties leave to nobody what may be begun",
+        State::Finished => "finished: nothing is left but to commit",
+        State::Waiting => "waiting for what is out",
+        State::Stuck => "stuck: only tests are left that do not hold",
+        _ => state_word(todo),
     }
 }
 
@@ -23,57 +37,28 @@ pub(crate) fn label_of<B: Book>(alloc: Global, book: &B, leaf: u32) -> Result<Ve
     Ok(label)
 }
 
-/// The users to whom duties leave the leaf's task now, in a case with a policy.
-fn takers<B: Book>(alloc: Global, book: &B, leaf: u32) -> Result<Vec<u32>, AllocError> {
-    let mut takers = Vec::new(alloc);
-    let (Some(policy), Some(event)) = (book.policy(), book.core().workflow().tree().event(leaf))
-    else {
-        return Ok(takers);
-    };
-    for user in 0..book.users() {
-        if may_take(book.core(), policy, event, user + 1) {
-            takers.push(user + 1)?;
-        }
-    }
-    Ok(takers)
-}
-
-/// Adds the users by name.
-fn push_users<B: Book>(page: &mut Page, book: &B, users: &[u32]) -> Result<(), AllocError> {
-    for (index, user) in users.iter().enumerate() {
+/// The labels of leaves, with commas between them.
+fn push_labels<B: Book>(
+    alloc: Global,
+    page: &mut Page,
+    book: &B,
+    leaves: &[u32],
+) -> Result<(), AllocError> {
+    for (index, leaf) in leaves.iter().enumerate() {
         page.between(index, ", ")?;
-        page.text(book.user_name(*user))?;
+        page.bytes(&label_of(alloc, book, *leaf)?)?;
     }
     Ok(())
 }
 
-/// Adds who may begin the leaf's task.
-fn push_takers<B: Book>(
-    alloc: Global,
-    page: &mut Page,
-    book: &B,
-    leaf: u32,
-) -> Result<(), AllocError> {
-    if book.policy().is_none() {
-        return Ok(());
-    }
-    let users = takers(alloc, book, leaf)?;
-    if users.is_empty() {
-        page.text("nobody")
-    } else {
-        push_users(page, book, &users)
-    }
-}
-
 /// A line that says what may be begun, and by whom.
 pub fn begin_line<B: Book>(alloc: Global, book: &mut B) -> Result<Vec<u8>, AllocError> {
-    book.look_ahead();
-    let todo = todo_of(alloc, book.core())?;
+    let todo = case_todo(alloc, book)?;
     let mut page = Page::new(alloc);
-    match todo.state {
+    match todo.todo.state {
         State::Committed => page.text("the case is committed")?,
         State::Finished => page.text("nothing is left but to commit")?,
-        _ => push_begin(alloc, &mut page, book, &todo)?,
+        _ => push_begin(alloc, &mut page, book, &todo.begin)?,
     }
     page.text("\n")?;
     Ok(page.into_text())
@@ -83,22 +68,62 @@ fn push_begin<B: Book>(
     alloc: Global,
     page: &mut Page,
     book: &B,
-    todo: &Todo,
+    begin: &[Beginning],
 ) -> Result<(), AllocError> {
-    if todo.begin.is_empty() {
+    if begin.is_empty() {
         return page.text("nothing may be begun now");
     }
     page.text("may be begun: ")?;
-    for (index, leaf) in todo.begin.iter().enumerate() {
-        page.between(index, "; ")?;
-        page.bytes(&label_of(alloc, book, *leaf)?)?;
-        if book.policy().is_some() {
-            page.text(" (")?;
-            push_takers(alloc, page, book, *leaf)?;
-            page.text(")")?;
+    let mut who = Vec::new(alloc);
+    for (index, task) in begin.iter().enumerate() {
+        let whose = who_may(alloc, book, task.leaf)?;
+        if index > 0 {
+            push_between(page, &who, &whose)?;
         }
+        page.bytes(&task_name(alloc, book, begin, task.leaf)?)?;
+        who = whose;
     }
-    Ok(())
+    push_in_brackets(page, &who)
+}
+
+/// Adds what stands between two tasks: who may take the first, where others may take the second.
+fn push_between(page: &mut Page, who: &[u8], next: &[u8]) -> Result<(), AllocError> {
+    if who == next {
+        return page.text(", ");
+    }
+    push_in_brackets(page, who)?;
+    page.text("; ")
+}
+
+/// Adds who may take tasks, if that is said.
+fn push_in_brackets(page: &mut Page, who: &[u8]) -> Result<(), AllocError> {
+    if who.is_empty() {
+        return Ok(());
+    }
+    page.text(" (")?;
+    page.bytes(who)?;
+    page.text(")")
+}
+
+/// The name of a task that may be begun, with its leaf where another one has the same name.
+fn task_name<B: Book>(
+    alloc: Global,
+    book: &B,
+    begin: &[Beginning],
+    leaf: u32,
+) -> Result<Vec<u8>, AllocError> {
+    let tree = book.core().workflow().tree();
+    let mut page = Page::new(alloc);
+    page.bytes(&label_of(alloc, book, leaf)?)?;
+    let event = tree.event(leaf);
+    if begin
+        .iter()
+        .any(|task| task.leaf != leaf && tree.event(task.leaf) == event)
+    {
+        page.text("@")?;
+        page.number(leaf)?;
+    }
+    Ok(page.into_text())
 }
 
 /// What is to be done.
@@ -107,62 +132,156 @@ pub(crate) fn todo_text<B: Book>(
     book: &mut B,
     form: Form,
 ) -> Result<Vec<u8>, AllocError> {
-    book.look_ahead();
-    let todo = todo_of(alloc, book.core())?;
+    let todo = case_todo(alloc, book)?;
     match form {
         Form::Words => todo_words(alloc, book, &todo),
         Form::Json => todo_object(alloc, book, &todo),
     }
 }
 
-fn todo_words<B: Book>(alloc: Global, book: &B, todo: &Todo) -> Result<Vec<u8>, AllocError> {
+fn todo_words<B: Book>(alloc: Global, book: &B, todo: &CaseTodo) -> Result<Vec<u8>, AllocError> {
     let mut page = Page::new(alloc);
-    for leaf in todo.begin.iter() {
-        page.text("may be begun   ")?;
-        page.column(&label_of(alloc, book, *leaf)?, 20)?;
-        push_takers(alloc, &mut page, book, *leaf)?;
-        page.text("\n")?;
+    for task in todo.begin.iter() {
+        push_beginning(alloc, &mut page, book, &todo.begin, task)?;
     }
-    for task in todo.out.iter() {
-        page.text("out            ")?;
-        page.column(&label_of(alloc, book, task.call.leaf)?, 20)?;
-        page.text(book.user_name(task.holder.unwrap_or(0)))?;
-        page.text(", claim ")?;
-        page.number(task.call.claim)?;
-        page.text("\n")?;
+    for task in todo.todo.out.iter() {
+        push_out(alloc, &mut page, book, task)?;
+    }
+    for task in later_tasks(alloc, book.core(), todo)?.iter() {
+        push_later(alloc, &mut page, book, task)?;
     }
     page.text("the case is ")?;
-    page.text(state_word(todo.state))?;
+    page.text(state_words(todo))?;
     page.text("\n")?;
     Ok(page.into_text())
 }
 
-fn todo_object<B: Book>(alloc: Global, book: &B, todo: &Todo) -> Result<Vec<u8>, AllocError> {
+/// Adds the line of a task that may be begun.
+fn push_beginning<B: Book>(
+    alloc: Global,
+    page: &mut Page,
+    book: &B,
+    begin: &[Beginning],
+    task: &Beginning,
+) -> Result<(), AllocError> {
+    page.text("may be begun   ")?;
+    let name = task_name(alloc, book, begin, task.leaf)?;
+    let who = who_may(alloc, book, task.leaf)?;
+    if who.is_empty() && task.steps.is_empty() {
+        page.bytes(&name)?;
+        return page.text("\n");
+    }
+    page.column(&name, 20)?;
+    page.bytes(&who)?;
+    if !task.steps.is_empty() {
+        page.text(if who.is_empty() { "after " } else { "; after " })?;
+        push_labels(alloc, page, book, &task.steps)?;
+    }
+    page.text("\n")
+}
+
+/// Adds the line of a task that is out.
+fn push_out<B: Book>(
+    alloc: Global,
+    page: &mut Page,
+    book: &B,
+    task: &OutTask,
+) -> Result<(), AllocError> {
+    page.text("out            ")?;
+    page.column(&label_of(alloc, book, task.call.leaf)?, 20)?;
+    page.text(book.user_name(task.holder.unwrap_or(0)))?;
+    if let Some(at) = taken_at(book, task.call.claim) {
+        page.text(" since ")?;
+        page.text(at)?;
+    }
+    page.text(", claim ")?;
+    page.number(task.call.claim)?;
+    page.text(", attempt ")?;
+    page.number(task.call.attempt)?;
+    page.text(", key ")?;
+    page.bytes(&key_of(alloc, book, task.call.leaf)?)?;
+    page.text("\n")
+}
+
+/// Adds the line of a task that comes next.
+fn push_later<B: Book>(
+    alloc: Global,
+    page: &mut Page,
+    book: &B,
+    task: &Later,
+) -> Result<(), AllocError> {
+    page.text("later          ")?;
+    page.column(&label_of(alloc, book, task.leaf)?, 20)?;
+    page.text("after ")?;
+    push_labels(alloc, page, book, &task.behind)?;
+    page.text("\n")
+}
+
+/// When the claim was given.
+fn taken_at<B: Book>(book: &B, claim: u32) -> Option<&str> {
+    for (place, entry) in book.core().history().iter().enumerate() {
+        match entry.step {
+            Step::Took { claim: given, .. } if given == claim => {
+                return Some(book.told(place)?.at);
+            }
+            _ => {}
+        }
+    }
+    None
+}
+
+/// The key under which the leaf's task may be performed twice without harm.
+pub(crate) fn key_of<B: Book>(alloc: Global, book: &B, leaf: u32) -> Result<Vec<u8>, AllocError> {
+    let mut key = Page::new(alloc);
+    key.text(book.path())?;
+    key.text("/")?;
+    key.bytes(&label_of(alloc, book, leaf)?)?;
+    Ok(key.into_text())
+}
+
+fn todo_object<B: Book>(alloc: Global, book: &B, todo: &CaseTodo) -> Result<Vec<u8>, AllocError> {
     let mut page = Page::new(alloc);
     page.text("{\"begin\":[")?;
-    for (index, leaf) in todo.begin.iter().enumerate() {
+    for (index, task) in todo.begin.iter().enumerate() {
         page.between(index, ",")?;
-        push_task(alloc, &mut page, book, *leaf)?;
-        push_task_users(alloc, &mut page, book, *leaf)?;
+        push_task(alloc, &mut page, book, task.leaf)?;
+        push_steps(alloc, &mut page, book, &task.steps)?;
+        push_task_users(alloc, &mut page, book, task.leaf)?;
         page.text("}")?;
     }
     page.text("],\"out\":[")?;
-    for (index, task) in todo.out.iter().enumerate() {
+    for (index, task) in todo.todo.out.iter().enumerate() {
         page.between(index, ",")?;
-        push_task(alloc, &mut page, book, task.call.leaf)?;
-        page.member("claim")?;
-        page.number(task.call.claim)?;
-        page.member("attempt")?;
-        page.number(task.call.attempt)?;
-        page.member("user")?;
-        page.quoted(book.user_name(task.holder.unwrap_or(0)).as_bytes())?;
-        page.text("}")?;
+        push_out_object(alloc, &mut page, book, task)?;
     }
     page.text("]")?;
     page.member("state")?;
-    page.quoted(state_word(todo.state).as_bytes())?;
+    page.quoted(state_word(todo).as_bytes())?;
     page.text("}\n")?;
     Ok(page.into_text())
+}
+
+/// Adds the object of a task that is out.
+fn push_out_object<B: Book>(
+    alloc: Global,
+    page: &mut Page,
+    book: &B,
+    task: &OutTask,
+) -> Result<(), AllocError> {
+    push_task(alloc, page, book, task.call.leaf)?;
+    page.member("claim")?;
+    page.number(task.call.claim)?;
+    page.member("attempt")?;
+    page.number(task.call.attempt)?;
+    page.member("key")?;
+    page.quoted(&key_of(alloc, book, task.call.leaf)?)?;
+    page.member("user")?;
+    page.quoted(book.user_name(task.holder.unwrap_or(0)).as_bytes())?;
+    if let Some(at) = taken_at(book, task.call.claim) {
+        page.member("at")?;
+        page.quoted(at.as_bytes())?;
+    }
+    page.text("}")
 }
 
 /// Adds the front of an object about a task.
@@ -176,6 +295,25 @@ fn push_task<B: Book>(
     page.number(leaf)?;
     page.member("task")?;
     page.quoted(&label_of(alloc, book, leaf)?)
+}
+
+/// Adds the tests and updates that are done before a task is taken, if there are such.
+fn push_steps<B: Book>(
+    alloc: Global,
+    page: &mut Page,
+    book: &B,
+    steps: &[u32],
+) -> Result<(), AllocError> {
+    if steps.is_empty() {
+        return Ok(());
+    }
+    page.member("steps")?;
+    page.text("[")?;
+    for (index, step) in steps.iter().enumerate() {
+        page.between(index, ",")?;
+        page.quoted(&label_of(alloc, book, *step)?)?;
+    }
+    page.text("]")
 }
 
 /// Adds the users who may begin a task, in a case with a policy.

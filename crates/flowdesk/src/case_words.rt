@@ -1,83 +1,98 @@
 use clap::{Arg, ArgAction, ArgMatches, Command};
 use std::alloc::{AllocError, Global};
 
-/// A command of a case: its name, what it is about, and whether it names a task.
+/// What stands behind the name of a case.
+#[derive(Clone, Copy)]
+enum Wants {
+    Nothing,
+    /// A word that means this.
+    Task(&'static str),
+    /// A word that means this, or nothing.
+    Perhaps(&'static str),
+}
+
+/// A command of a case: its name, what it is about, and what stands behind the case.
 struct CaseCommand {
     name: &'static str,
     about: &'static str,
-    wants: Option<&'static str>,
+    wants: Wants,
 }
 
-const COMMANDS: [CaseCommand; 14] = [
+const COMMANDS: [CaseCommand; 15] = [
     CaseCommand {
         name: "take",
         about: "Takes a task, after the tests and updates that it waits for",
-        wants: Some("the task: the name of its event, or NAME@LEAF"),
+        wants: Wants::Task("the task: the name of its event, or NAME@LEAF"),
     },
     CaseCommand {
         name: "done",
         about: "Tells that a task succeeded",
-        wants: Some("the task that is out, or the number of its claim"),
+        wants: Wants::Task("the task that is out, or the number of its claim"),
     },
     CaseCommand {
         name: "fail",
         about: "Tells that a task failed",
-        wants: Some("the task that is out, or the number of its claim"),
+        wants: Wants::Task("the task that is out, or the number of its claim"),
     },
     CaseCommand {
         name: "do",
         about: "Makes a test of a fact, or a change of one",
-        wants: Some("the label in quotes, or the number of the leaf"),
+        wants: Wants::Task("the label in quotes, or the number of the leaf"),
     },
     CaseCommand {
         name: "rewind",
         about: "Steps back to the last place at which another choice is free",
-        wants: None,
+        wants: Wants::Nothing,
     },
     CaseCommand {
         name: "commit",
         about: "Ends the case",
-        wants: None,
+        wants: Wants::Nothing,
+    },
+    CaseCommand {
+        name: "tidy",
+        about: "Makes the changes of facts that close off no choice",
+        wants: Wants::Nothing,
     },
     CaseCommand {
         name: "todo",
         about: "Shows what may be begun and by whom, and what is out",
-        wants: None,
+        wants: Wants::Nothing,
     },
     CaseCommand {
         name: "why",
         about: "Tells why a task may not be taken now",
-        wants: Some("the task"),
+        wants: Wants::Task("the task"),
     },
     CaseCommand {
         name: "history",
         about: "Shows who did what, and when",
-        wants: None,
+        wants: Wants::Nothing,
     },
     CaseCommand {
         name: "undone",
-        about: "Shows what steps back took, to be undone outside",
-        wants: None,
+        about: "Shows what steps back took, to be undone outside; with --ok ticks it off",
+        wants: Wants::Perhaps("the task, or the number of its claim, that is undone outside"),
     },
     CaseCommand {
         name: "facts",
         about: "Shows the facts that hold",
-        wants: None,
+        wants: Wants::Nothing,
     },
     CaseCommand {
         name: "report",
         about: "Shows the report that flowkeep prints",
-        wants: None,
+        wants: Wants::Nothing,
     },
     CaseCommand {
         name: "verify",
         about: "Checks entries and trail, and shows the last seal",
-        wants: None,
+        wants: Wants::Nothing,
     },
     CaseCommand {
         name: "open",
         about: "Answers commands from standard input, a line each",
-        wants: None,
+        wants: Wants::Nothing,
     },
 ];
 
@@ -121,7 +136,7 @@ const OPTIONS: [(&str, &str, &str); 4] = [
 
 /// The command with what each command of a case may be given besides.
 fn with_options<'a>(alloc: Global, command: Command<'a>) -> Result<Command<'a>, AllocError> {
-    let mut command = command.arg(json_arg(alloc))?;
+    let mut command = command.arg(json_arg(alloc))?.arg(quiet_arg(alloc))?;
     for (name, value, help) in OPTIONS {
         command = command.arg(option(alloc, name, value, help))?;
     }
@@ -135,12 +150,25 @@ fn json_arg<'a>(alloc: Global) -> Arg<'a> {
         .action(ArgAction::SetTrue)
 }
 
+fn quiet_arg<'a>(alloc: Global) -> Arg<'a> {
+    Arg::new(alloc, "quiet")
+        .long("quiet")
+        .help("does not tell what was made: the status does")
+        .action(ArgAction::SetTrue)
+}
+
 fn task_arg<'a>(alloc: Global, help: &'static str) -> Arg<'a> {
     Arg::new(alloc, "task")
         .value_name("TASK")
         .help(help)
-        .required(true)
         .action(ArgAction::Set)
+}
+
+fn ok_arg<'a>(alloc: Global) -> Arg<'a> {
+    Arg::new(alloc, "ok")
+        .long("ok")
+        .help("it is undone outside")
+        .action(ArgAction::SetTrue)
 }
 
 /// The words of one command.
@@ -148,8 +176,9 @@ fn command_of<'a>(alloc: Global, command: &CaseCommand) -> Result<Command<'a>, A
     let words = Command::new(alloc, command.name).about(command.about);
     let words = with_options(alloc, words.arg(case_arg(alloc))?)?;
     match command.wants {
-        Some(help) => words.arg(task_arg(alloc, help)),
-        None => Ok(words),
+        Wants::Task(help) => words.arg(task_arg(alloc, help).required(true)),
+        Wants::Perhaps(help) => words.arg(task_arg(alloc, help))?.arg(ok_arg(alloc)),
+        Wants::Nothing => Ok(words),
     }
 }
 
@@ -188,6 +217,9 @@ pub(crate) fn line_in(
     words: &ArgMatches<'_>,
 ) -> Result<String, AllocError> {
     match words.get_str("task") {
+        Some(task) if name == "undone" && words.get_flag("ok") => {
+            format!(in alloc; "{name} {task} --ok")
+        }
         Some(task) => format!(in alloc; "{name} {task}"),
         None => format!(in alloc; "{name}"),
     }

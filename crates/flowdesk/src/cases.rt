@@ -1,50 +1,40 @@
 //! Cases: folders that are driven by names.
 ghost use Rattle.std.specs.Prelude.{◌≡◌};
 
+use crate::case_faults::{tell_folder, tell_stop};
 use crate::case_words::line_in;
-use crate::{DISK, NO_MEMORY, read, unread, write};
+use crate::{NO_MEMORY, write};
 use clap::ArgMatches;
-use flow_case_book::{CaseBook, CaseStop, CaseTexts, KeptTexts, check_texts, open_case};
-use flow_case_files::{CaseDisks, FolderFault, GREATEST_TEXT, make_case, open_disks, read_case};
-use flow_case_talk::{Book, Form, Reply, Speaker, begin_line, respond};
+use flow_case_book::{Asker, CaseBook, KeptTexts, open_case};
+use flow_case_files::{CaseDisks, open_disks, read_case};
+use flow_case_talk::{Form, Outcome, Reply, begin_line};
 use flow_disk::{Disk, FileDisk};
-use flow_front::{Status, Stop};
 use jiff::Timestamp;
 use std::alloc::AllocError;
 use std::env;
 use std::fs::File;
-use std::io::BufRead;
 use std::rt::{Env, Files};
 use std::time::{Clock, Duration};
 
 /// The status where the case, or what was asked of it, is refused.
-const REFUSED: u8 = 1;
-
-/// The status where a text is refused.
-const TEXT: u8 = 3;
-
-/// The status where another process has the case.
-const IN_USE: u8 = 9;
-
-/// The status where standard input could not be read.
-const READ_FAULT: u8 = 4;
+pub(crate) const REFUSED: u8 = 1;
 
 /// How many seconds a command waits for another one, where it is not told.
-const WAIT: u64 = 5;
+pub(crate) const WAIT: u64 = 5;
 
 /// A case in files of the system.
-type FileCase<'a, R> = CaseBook<FileDisk<'a, R>, FileDisk<'a, R>>;
+pub(crate) type FileCase<'a, R> = CaseBook<FileDisk<'a, R>, FileDisk<'a, R>>;
 
-/// Who asks, and when.
+/// The words that say who asks, and when.
 #[derive(Drop)]
-struct Asker {
+pub(crate) struct AskerWords {
     name: String,
     at: String,
     note: String,
 }
 
 /// The present time as RFC 3339, to the second.
-fn stamp<R: Clock + AllocGlobal>(rt: &R) -> Result<String, AllocError> {
+pub(crate) fn stamp<R: Clock + AllocGlobal>(rt: &R) -> Result<String, AllocError> {
     match Timestamp::now(rt) {
         Ok(now) => format!(in rt.alloc(); "{now:.0}"),
         Err(_) => format!(in rt.alloc(); "no time"),
@@ -65,10 +55,10 @@ fn login_name<R: Env + AllocGlobal>(rt: &R) -> Result<String, AllocError> {
     }
 }
 
-fn asker_in<R: Env + Clock + AllocGlobal>(
+pub(crate) fn asker_in<R: Env + Clock + AllocGlobal>(
     rt: &R,
     words: &ArgMatches<'_>,
-) -> Result<Asker, AllocError> {
+) -> Result<AskerWords, AllocError> {
     let name = match words.get_str("as") {
         Some(name) => format!(in rt.alloc(); "{name}")?,
         None => login_name(rt)?,
@@ -78,11 +68,11 @@ fn asker_in<R: Env + Clock + AllocGlobal>(
         None => stamp(rt)?,
     };
     let note = text_or(rt, words.get_str("note"), "")?;
-    Ok(Asker { name, at, note })
+    Ok(AskerWords { name, at, note })
 }
 
 /// How long to wait for another command.
-fn wait_in(words: &ArgMatches<'_>) -> Duration {
+pub(crate) fn wait_in(words: &ArgMatches<'_>) -> Duration {
     let seconds = match words.get_str("wait") {
         Some(text) => text.parse::<u64>().unwrap_or(WAIT),
         None => WAIT,
@@ -95,68 +85,6 @@ fn form_in(words: &ArgMatches<'_>) -> Form {
         Form::Json
     } else {
         Form::Words
-    }
-}
-
-/// Says why the folder of a case is not read or opened, and gives the status.
-fn tell_folder(rt: &impl Eprint, case: &str, fault: FolderFault) -> u8 {
-    match fault {
-        FolderFault::Exists => {
-            let _ = eprintln!(rt; "{case}: there is something of that name, or of {case}.new");
-            DISK
-        }
-        FolderFault::NoCase(name) => {
-            let _ = eprintln!(rt; "{case}: it is no case: there is no file {name} in it");
-            DISK
-        }
-        FolderFault::InUse => {
-            let _ = eprintln!(rt; "{case} is in use");
-            IN_USE
-        }
-        FolderFault::System(error) => {
-            let _ = eprintln!(rt; "{case}: {error}");
-            DISK
-        }
-        FolderFault::NoMemory => NO_MEMORY,
-    }
-}
-
-/// Says that the workflow is refused, and gives the status.
-fn tell_workflow(rt: &impl Eprint, case: &str, stop: &Stop) -> u8 {
-    match stop {
-        Stop::Refused(refused) => {
-            let _ = eprintln!(rt;
-                "{case}: the workflow is refused: `flowdesk explain FILE` tells why"
-            );
-            Status::of(refused).code()
-        }
-        Stop::NoMemory => NO_MEMORY,
-    }
-}
-
-/// Says why a case is not opened or made, and gives the status.
-fn tell_stop(rt: &impl Eprint, case: &str, stop: CaseStop) -> u8 {
-    match stop {
-        CaseStop::Workflow(stop) => tell_workflow(rt, case, &stop),
-        CaseStop::Policy(refusal) => {
-            let _ = eprintln!(rt; "{case}: the policy is refused: {refusal}");
-            TEXT
-        }
-        CaseStop::Foreign(index) => {
-            let _ = eprintln!(rt;
-                "{case}: entry {index} of run.keep, from 0, is not legal in this workflow"
-            );
-            REFUSED
-        }
-        CaseStop::Trail(refusal) => {
-            let _ = eprintln!(rt; "{case}: {refusal}");
-            REFUSED
-        }
-        CaseStop::Disk => {
-            let _ = eprintln!(rt; "{case}: a file could not be read or written");
-            DISK
-        }
-        CaseStop::NoMemory => NO_MEMORY,
     }
 }
 
@@ -180,7 +108,7 @@ fn texts_of<R: Files<File = File> + AllocGlobal + Eprint>(
 }
 
 /// Opens the case for this process alone.
-fn opened<'a, R: Files<File = File> + Clock + AllocGlobal + Eprint>(
+pub(crate) fn opened<'a, R: Files<File = File> + Clock + AllocGlobal + Eprint>(
     rt: &'a R,
     case: &str,
     wait: Duration,
@@ -214,42 +142,32 @@ fn opened_with<'a, R: Files<File = File> + Clock + AllocGlobal + Eprint>(
     }
 }
 
-/// Replies to a line.
-fn reply_to<'a, R: Files<File = File> + AllocGlobal>(
-    rt: &R,
-    book: &mut FileCase<'a, R>,
-    asker: &Asker,
-    line: &[u8],
-    form: Form,
-) -> Result<Reply, AllocError> {
-    let number = book.number_of(&asker.name)?;
-    let speaker = Speaker {
-        number,
-        name: asker.name.as_str(),
-        at: asker.at.as_str(),
-        note: asker.note.as_str(),
-    };
-    respond(rt.alloc(), book, speaker, line, form)
-}
-
-/// Writes a reply, and gives the status.
-fn say(rt: &(impl Print + Eprint), reply: &Reply) -> u8 {
+/// Writes a reply, and gives the status. Where the call is to be quiet, what was made is not told.
+fn say(rt: &(impl Print + Eprint), words: &ArgMatches<'_>, reply: &Reply) -> u8 {
+    if reply.outcome == Outcome::Made && words.get_flag("quiet") {
+        return 0;
+    }
     match write(rt, &reply.text) {
-        0 if reply.refused => REFUSED,
+        0 if reply.outcome == Outcome::Refused => REFUSED,
         status => status,
     }
 }
 
 /// Asks the case one line, and writes the reply.
-fn ask_line<'a, R: Files<File = File> + AllocGlobal + Print + Eprint>(
+pub(crate) fn ask_line<'a, R: Files<File = File> + AllocGlobal + Print + Eprint>(
     rt: &R,
     book: &mut FileCase<'a, R>,
-    asker: &Asker,
+    words: &ArgMatches<'_>,
+    asker: &AskerWords,
     line: &[u8],
-    form: Form,
 ) -> u8 {
-    match reply_to(rt, book, asker, line, form) {
-        Ok(reply) => say(rt, &reply),
+    let asker = Asker {
+        name: asker.name.as_str(),
+        at: asker.at.as_str(),
+        note: asker.note.as_str(),
+    };
+    match book.reply(asker, line, form_in(words)) {
+        Ok(reply) => say(rt, words, &reply),
         Err(AllocError) => NO_MEMORY,
     }
 }
@@ -258,13 +176,13 @@ fn ask_line<'a, R: Files<File = File> + AllocGlobal + Print + Eprint>(
 fn ask_once<R: Files<File = File> + Clock + AllocGlobal + Print + Eprint>(
     rt: &R,
     words: &ArgMatches<'_>,
-    asker: &Asker,
+    asker: &AskerWords,
     line: &[u8],
 ) -> u8 {
     let case = words.get_str("case").unwrap_or("");
     match opened(rt, case, wait_in(words), &asker.at) {
         Ok(mut book) => {
-            let status = ask_line(rt, &mut book, asker, line, form_in(words));
+            let status = ask_line(rt, &mut book, words, asker, line);
             drop(book);
             status
         }
@@ -287,83 +205,8 @@ pub(crate) fn ask_case<R: Files<File = File> + Env + Clock + AllocGlobal + Print
     }
 }
 
-/// Makes the folder of a case, and says what may be begun in it.
-pub(crate) fn make<R: Files<File = File> + Env + Clock + AllocGlobal + Print + Eprint>(
-    rt: &R,
-    words: &ArgMatches<'_>,
-) -> u8 {
-    let case = words.get_str("case").unwrap_or("");
-    let file = words.get_str("workflow").unwrap_or("");
-    let workflow = match read(rt, file, GREATEST_TEXT) {
-        Ok(text) => text,
-        Err(error) => return unread(rt, file, error),
-    };
-    let policy = match words.get_str("policy") {
-        Some(file) => match read(rt, file, GREATEST_TEXT) {
-            Ok(text) => Some(text),
-            Err(error) => return unread(rt, file, error),
-        },
-        None => None,
-    };
-    match &policy {
-        Some(policy) => make_governed(rt, case, &workflow, without_divider(policy)),
-        None => make_free(rt, case, &workflow),
-    }
-}
-
-/// The text behind its first line, where that is `%%`: so a policy stands for `flow duty`.
-fn without_divider(text: &[u8]) -> &[u8] {
-    match text {
-        [b'%', b'%', b'\n', rest @ ..] => rest,
-        _ => text,
-    }
-}
-
-/// Makes the folder of a case under a policy.
-fn make_governed<'x, R: Files<File = File> + Clock + AllocGlobal + Print + Eprint>(
-    rt: &R,
-    case: &str,
-    workflow: &'x [u8],
-    policy: &'x [u8],
-) -> u8 {
-    let policy = Some(policy);
-    make_checked(rt, case, CaseTexts { workflow, policy })
-}
-
-/// Makes the folder of a case without a policy.
-fn make_free<R: Files<File = File> + Clock + AllocGlobal + Print + Eprint>(
-    rt: &R,
-    case: &str,
-    workflow: &[u8],
-) -> u8 {
-    let policy = None;
-    make_checked(rt, case, CaseTexts { workflow, policy })
-}
-
-/// Makes the folder of a case of these texts, where they are not refused.
-fn make_checked<R: Files<File = File> + Clock + AllocGlobal + Print + Eprint>(
-    rt: &R,
-    case: &str,
-    texts: CaseTexts<'_>,
-) -> u8 {
-    if let Err(stop) = check_texts(rt.alloc(), texts) {
-        return tell_stop(rt, case, stop);
-    }
-    if let Err(fault) = make_case(rt, case, texts.workflow, texts.policy) {
-        return tell_folder(rt, case, fault);
-    }
-    match opened(rt, case, Duration::from_secs(WAIT), "") {
-        Ok(mut book) => {
-            let status = say_begin(rt, &mut book);
-            drop(book);
-            status
-        }
-        Err(status) => status,
-    }
-}
-
 /// Says what may be begun.
-fn say_begin<'a, R: Files<File = File> + AllocGlobal + Print + Eprint>(
+pub(crate) fn say_begin<'a, R: Files<File = File> + AllocGlobal + Print + Eprint>(
     rt: &R,
     book: &mut FileCase<'a, R>,
 ) -> u8 {
@@ -419,71 +262,4 @@ fn whole_line<'a, R: Files<File = File> + AllocGlobal>(
 ) -> Result<String, AllocError> {
     let seal = book.seal(rt.alloc())?;
     format!(in rt.alloc(); "whole: the last seal is {seal}\n")
-}
-
-/// Answers the lines of standard input, each before the next is read.
-pub(crate) fn dialogue<
-    R: Files<File = File> + Env + Clock + AllocGlobal + Print + Eprint,
-    I: BufRead + Drop,
->(rt: &R, words: &ArgMatches<'_>, input: I) -> u8 {
-    let mut input = input;
-    let case = words.get_str("case").unwrap_or("");
-    let Ok(first) = stamp(rt) else {
-        return NO_MEMORY;
-    };
-    match opened(rt, case, wait_in(words), &first) {
-        Ok(mut book) => {
-            let status = answer_lines(rt, &mut book, words, &mut input);
-            drop(book);
-            status
-        }
-        Err(status) => status,
-    }
-}
-
-/// Answers line after line.
-fn answer_lines<'a, R: Files<File = File> + Env + Clock + AllocGlobal + Print + Eprint, I: BufRead>(
-    rt: &R,
-    book: &mut FileCase<'a, R>,
-    words: &ArgMatches<'_>,
-    input: &mut I,
-) -> u8 {
-    let mut line = Vec::new(rt.alloc());
-    let mut status = 0;
-    for _ in 0..u64::MAX {
-        line.clear();
-        match input.read_until(b'\n', &mut line) {
-            Ok(0) => return status,
-            Ok(_) => status = answer_line(rt, book, words, trimmed(&line)),
-            Err(error) => {
-                let _ = eprintln!(rt; "flowdesk: standard input: {error}");
-                return READ_FAULT;
-            }
-        }
-        if status > REFUSED {
-            return status;
-        }
-    }
-    status
-}
-
-/// The line without its line feed.
-fn trimmed(line: &[u8]) -> &[u8] {
-    match line.split_last() {
-        Some((b'\n', rest)) => rest,
-        _ => line,
-    }
-}
-
-/// Answers a line of a dialogue, and gives the status.
-fn answer_line<'a, R: Files<File = File> + Env + Clock + AllocGlobal + Print + Eprint>(
-    rt: &R,
-    book: &mut FileCase<'a, R>,
-    words: &ArgMatches<'_>,
-    line: &[u8],
-) -> u8 {
-    match asker_in(rt, words) {
-        Ok(asker) => ask_line(rt, book, &asker, line, form_in(words)),
-        Err(AllocError) => NO_MEMORY,
-    }
 }

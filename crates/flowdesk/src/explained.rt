@@ -1,12 +1,14 @@
+use crate::logged::option;
 use crate::{NO_MEMORY, read, unread, write};
 use clap::{Arg, ArgAction, ArgMatches, Command};
 use flow_desk::GREATEST_INPUT;
-use flow_why_cli::{Form, explain};
+use flow_front::Output;
+use flow_why_cli::{Form, explain, explain_journal, explain_query, explain_session};
 use std::alloc::{AllocError, Global};
 use std::fs::File;
 use std::rt::Files;
 
-/// The words that ask what is wrong with a workflow.
+/// The words that ask what is wrong with a workflow, or with what is asked of it.
 pub(crate) fn explain_command<'a>(alloc: Global) -> Result<Command<'a>, AllocError> {
     let file = Arg::new(alloc, "file")
         .value_name("FILE")
@@ -19,13 +21,54 @@ pub(crate) fn explain_command<'a>(alloc: Global) -> Result<Command<'a>, AllocErr
         .action(ArgAction::SetTrue);
     let json = Arg::new(alloc, "json")
         .long("json")
-        .help("tells it as a JSON object on a line, without circles")
+        .help("tells it as JSON objects, each on a line, without circles")
         .action(ArgAction::SetTrue);
-    Command::new(alloc, "explain")
-        .about("Tells why a workflow is refused or inconsistent")
+    let command = Command::new(alloc, "explain")
+        .about("Tells why a workflow is refused or inconsistent, and why tasks wait")
         .arg(file)?
         .arg(circles)?
-        .arg(json)
+        .arg(json)?;
+    with_texts(alloc, command)
+}
+
+/// The command with the options for what is asked of a workflow.
+fn with_texts<'a>(alloc: Global, command: Command<'a>) -> Result<Command<'a>, AllocError> {
+    let session = option(
+        alloc,
+        "session",
+        "PATH",
+        "the commands of flow drive: tells why each is refused that is, and which leaves wait then, and why",
+    );
+    let policy = option(
+        alloc,
+        "policy",
+        "PATH",
+        "a policy of flow duty: the session is one of its users",
+    );
+    let journal = option(
+        alloc,
+        "journal",
+        "PATH",
+        "a journal of flow trace: tells where it is bad, why, and what could have come there",
+    );
+    let query = option(
+        alloc,
+        "query",
+        "PATH",
+        "a query of flow verify: tells what is wrong with it",
+    );
+    let leaf = option(
+        alloc,
+        "leaf",
+        "LEAF",
+        "the number or the label of a leaf: tells why it waits, and of no other",
+    );
+    command
+        .arg(session)?
+        .arg(policy)?
+        .arg(journal)?
+        .arg(query)?
+        .arg(leaf)
 }
 
 /// The form that is asked for.
@@ -39,21 +82,81 @@ fn form_in(matches: &ArgMatches<'_>) -> Form {
     }
 }
 
-/// Tells what is wrong with the workflow that the words name, and gives the status.
+/// The text of a file that the words name, or the status where it is not read. Without such a word there is none.
+fn text_of<R: Files<File = File> + AllocGlobal + Eprint>(
+    rt: &R,
+    matches: &ArgMatches<'_>,
+    name: &str,
+) -> Result<Option<Vec<u8>>, u8> {
+    let Some(path) = matches.get_str(name) else {
+        return Ok(None);
+    };
+    match read(rt, path, GREATEST_INPUT) {
+        Ok(text) => Ok(Some(text)),
+        Err(error) => Err(unread(rt, path, error)),
+    }
+}
+
+/// What is told, or the status where memory is refused.
+fn told(output: Result<Output, AllocError>) -> Result<Output, u8> {
+    match output {
+        Ok(output) => Ok(output),
+        Err(AllocError) => Err(NO_MEMORY),
+    }
+}
+
+/// What is told of a session, or of a policy alone, where the words name one.
+fn session_output<R: Files<File = File> + AllocGlobal + Eprint>(
+    rt: &R,
+    matches: &ArgMatches<'_>,
+    text: &[u8],
+) -> Result<Output, u8> {
+    let form = form_in(matches);
+    let session = text_of(rt, matches, "session")?;
+    let policy = text_of(rt, matches, "policy")?;
+    let leaf = match matches.get_str("leaf") {
+        Some(leaf) => Some(leaf.as_bytes()),
+        None => None,
+    };
+    let lines = match &session {
+        Some(session) => session.as_slice(),
+        None => &[],
+    };
+    if session.is_none() && policy.is_none() && leaf.is_none() {
+        return told(explain(rt.alloc(), text, form));
+    }
+    told(match &policy {
+        Some(policy) => explain_session(rt.alloc(), text, Some(policy), lines, leaf, form),
+        None => explain_session(rt.alloc(), text, None, lines, leaf, form),
+    })
+}
+
+/// What is told of a workflow, and of what is asked of it, or the status where a file is not read.
+fn output_of<R: Files<File = File> + AllocGlobal + Eprint>(
+    rt: &R,
+    matches: &ArgMatches<'_>,
+) -> Result<Output, u8> {
+    let form = form_in(matches);
+    let text = text_of(rt, matches, "file")?.unwrap_or(Vec::new(rt.alloc()));
+    if let Some(journal) = text_of(rt, matches, "journal")? {
+        return told(explain_journal(rt.alloc(), &text, &journal, form));
+    }
+    if let Some(query) = text_of(rt, matches, "query")? {
+        return told(explain_query(rt.alloc(), &text, &query, form));
+    }
+    session_output(rt, matches, &text)
+}
+
+/// Tells what is wrong with the workflow that the words name, or with what is asked of it, and gives the status.
 pub(crate) fn explain_file<R: Files<File = File> + AllocGlobal + Print + Eprint>(
     rt: &R,
     matches: &ArgMatches<'_>,
 ) -> u8 {
-    let file = matches.get_str("file").unwrap_or("");
-    let text = match read(rt, file, GREATEST_INPUT) {
-        Ok(text) => text,
-        Err(error) => return unread(rt, file, error),
-    };
-    match explain(rt.alloc(), &text, form_in(matches)) {
+    match output_of(rt, matches) {
         Ok(output) => match write(rt, &output.text) {
             0 => output.status.code(),
             fault => fault,
         },
-        Err(AllocError) => NO_MEMORY,
+        Err(status) => status,
     }
 }

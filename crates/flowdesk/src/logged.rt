@@ -32,7 +32,7 @@ const USUAL_JOBS: u32 = 4;
 const USUAL_BUDGET: u32 = 100_000;
 
 /// A word that takes a value.
-fn option<'a>(alloc: Global, name: &'a str, value: &'a str, help: &'a str) -> Arg<'a> {
+pub(crate) fn option<'a>(alloc: Global, name: &'a str, value: &'a str, help: &'a str) -> Arg<'a> {
     Arg::new(alloc, name)
         .long(name)
         .value_name(value)

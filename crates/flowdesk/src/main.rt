@@ -1,24 +1,34 @@
-//! `flowdesk`: draws the workflow of a file, and where a run of it stands, to the standard output; and tells what is wrong with it.
+//! `flowdesk`: draws the workflow of a file, and where a run of it stands, to the standard output; and tells what is wrong with it
+//! and what to look at.
 #![tactic(auto)]
 
 ghost use Rattle.std.specs.Prelude.{◌<◌};
 
+mod case_dialogue;
+mod case_drawn;
+mod case_faults;
+mod case_new;
 mod case_words;
 mod cases;
 mod explained;
+mod linted;
 mod logged;
 mod message;
 mod words;
 
+use case_dialogue::dialogue;
+use case_drawn::draw_case;
+use case_new::make;
 use case_words::is_case_command;
-use cases::{ask_case, dialogue, make, verify};
+use cases::{ask_case, verify};
 use explained::explain_file;
 use flow_desk::{GREATEST_INPUT, GREATEST_RUN, drawn, read_front};
+use linted::lint_file;
 use logged::log_file;
 use message::{NO_MEMORY, tell};
 use std::alloc::AllocError;
 use std::env;
-use std::fs::File;
+use std::fs::{self, File};
 use std::io::{self, Write};
 use std::process::ExitCode;
 use std::rt::{Env, Files};
@@ -84,8 +94,27 @@ fn read_run<R: Files<File = File> + AllocGlobal>(
     }
 }
 
-/// Draws what the words ask for, and gives the status.
-fn draw<R: Files<File = File> + AllocGlobal + Print + Eprint>(rt: &R, call: Call<'_>) -> u8 {
+/// Whether there is a folder of that name.
+fn is_folder<R: Files<File = File>>(rt: &R, path: &str) -> bool {
+    match fs::metadata(rt, path) {
+        Ok(found) => found.is_dir(),
+        Err(_) => false,
+    }
+}
+
+/// Draws what the words ask for, a file or a case, and gives the status.
+fn draw<R: Files<File = File> + Clock + AllocGlobal + Print + Eprint>(
+    rt: &R,
+    call: Call<'_>,
+) -> u8 {
+    if is_folder(rt, call.file) {
+        return draw_case(rt, call.file, call.form);
+    }
+    draw_file(rt, call)
+}
+
+/// Draws the workflow of a file, and gives the status.
+fn draw_file<R: Files<File = File> + AllocGlobal + Print + Eprint>(rt: &R, call: Call<'_>) -> u8 {
     let text = match read(rt, call.file, GREATEST_INPUT) {
         Ok(text) => text,
         Err(error) => return unread(rt, call.file, error),
@@ -118,6 +147,7 @@ fn desk<
     match command.try_get_matches_from(words.as_slice()) {
         Ok(matches) => match matches.subcommand() {
             Some((name, words)) if name == "explain" => explain_file(rt, words),
+            Some((name, words)) if name == "lint" => lint_file(rt, words),
             Some((name, words)) if name == "log" => log_file(rt, words),
             Some((name, words)) if name == "new" => make(rt, words),
             Some((name, words)) if name == "verify" => verify(rt, words),

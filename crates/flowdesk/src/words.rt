@@ -1,5 +1,6 @@
 use crate::case_words::with_cases;
 use crate::explained::explain_command;
+use crate::linted::lint_command;
 use crate::logged::log_command;
 use clap::builder::ValueParser;
 use clap::{Arg, ArgAction, ArgMatches, Command};
@@ -20,6 +21,7 @@ pub(crate) struct Call<'a> {
 pub(crate) fn desk_command<'a>(alloc: Global) -> Result<Command<'a>, AllocError> {
     let draw = draw_command(alloc)?;
     let explain = explain_command(alloc)?;
+    let lint = lint_command(alloc)?;
     let log = log_command(alloc)?;
     let command = Command::new(alloc, "flowdesk")
         .version("1")
@@ -27,6 +29,7 @@ pub(crate) fn desk_command<'a>(alloc: Global) -> Result<Command<'a>, AllocError>
         .subcommand_required(true)
         .subcommand(draw)?
         .subcommand(explain)?
+        .subcommand(lint)?
         .subcommand(log)?;
     with_cases(alloc, command)
 }
@@ -35,7 +38,9 @@ pub(crate) fn desk_command<'a>(alloc: Global) -> Result<Command<'a>, AllocError>
 fn draw_command<'a>(alloc: Global) -> Result<Command<'a>, AllocError> {
     let file = Arg::new(alloc, "file")
         .value_name("FILE")
-        .help("the text of a workflow; what stands behind a line %% is not looked at")
+        .help(
+            "the text of a workflow, of which what stands behind a line %% is not looked at; or the folder of a case",
+        )
         .required(true)
         .action(ArgAction::Set);
     let journal = Arg::new(alloc, "journal")

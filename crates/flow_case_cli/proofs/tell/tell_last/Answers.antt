@@ -14,7 +14,7 @@ pub returns-in-Ok-tell-clause-told : goal.returns-in-Ok-tell-clause-told
 returns-in-Ok-tell-clause-told g c = λ more.
     let said : Said = said_of c.in-Ok.line in (
       said,
-      λ fine entry is. line_at _ _ c.args.leaf c.history-history.result.now c.args.core.now.history c.args.count _ entry c.args.asker.now said c.workflow.ensures c.history-history.ensures.entries is c.in-Ok.ensures,
+      λ fine entry is. line_at _ _ c.args.leaf c.history-history.result.now c.args.core.now.history c.args.count _ entry c.args.asker said c.workflow.ensures c.history-history.ensures.entries is c.in-Ok.ensures,
       record {
         any_moment = λ told. c.in-Ok-tell.ensures.any_moment told c.requires.whole;
         told = λ fine. c.in-Ok-tell.ensures.told;

@@ -30,7 +30,7 @@ returns-in_err-keep_last-clause-told g c = λ unbroken.
           let size = longer (run_of t.run) (run_of after) c.args.by step more.2 in
           let here : length c.history-count.result.now < length c.core-3.result.now.history = omega (arith, before, size, ap (λ (r : Run). length r.history) c.core-3.ensures.run) in
           let told = c.in_ok-tell_last.ensures.told here in
-          let entry = entry_told (run_of t.run) (run_of after) c.core-3.result.now c.args.ask c.args.by step c.leaf_of-leaf.result c.args.asker.now told.0 (length c.history-count.result.now) c.core-3.ensures.run more.2
+          let entry = entry_told (run_of t.run) (run_of after) c.core-3.result.now c.args.ask c.args.by step c.leaf_of-leaf.result c.args.asker told.0 (length c.history-count.result.now) c.core-3.ensures.run more.2
           before more.1 (subst (λ (r : Run). IsLeafOf r c.args.ask c.leaf_of-leaf.result) c.core-2.ensures.run c.leaf_of-leaf.ensures) (told.1 refl) in
           let line = told.2 in
           inr (
@@ -53,7 +53,7 @@ returns-clause-told g c = λ unbroken.
           let size = longer (run_of t.run) (run_of after) c.args.by step more.2 in
           let here : length c.history-count.result.now < length c.core-3.result.now.history = omega (arith, before, size, ap (λ (r : Run). length r.history) c.core-3.ensures.run) in
           let told = c.in_ok-tell_last.ensures.told here in
-          let entry = entry_told (run_of t.run) (run_of after) c.core-3.result.now c.args.ask c.args.by step c.leaf_of-leaf.result c.args.asker.now told.0 (length c.history-count.result.now) c.core-3.ensures.run more.2
+          let entry = entry_told (run_of t.run) (run_of after) c.core-3.result.now c.args.ask c.args.by step c.leaf_of-leaf.result c.args.asker told.0 (length c.history-count.result.now) c.core-3.ensures.run more.2
           before more.1 (subst (λ (r : Run). IsLeafOf r c.args.ask c.leaf_of-leaf.result) c.core-2.ensures.run c.leaf_of-leaf.ensures) (told.1 refl) in
           let line = told.2 in
           inr (
@@ -83,9 +83,9 @@ invariant_of-self-2 g c =
             let size = longer (run_of t.run) (run_of after) c.args.by step more.2 in
             let here : length c.history-count.result.now < length c.core-3.result.now.history = omega (arith, before, size, ap (λ (r : Run). length r.history) c.core-3.ensures.run) in
             let told = c.in_ok-tell_last.ensures.told here in
-            let entry = entry_told (run_of t.run) (run_of after) c.core-3.result.now c.args.ask c.args.by step c.leaf_of-leaf.result c.args.asker.now told.0 (length c.history-count.result.now) c.core-3.ensures.run more.2
+            let entry = entry_told (run_of t.run) (run_of after) c.core-3.result.now c.args.ask c.args.by step c.leaf_of-leaf.result c.args.asker told.0 (length c.history-count.result.now) c.core-3.ensures.run more.2
             before more.1 (subst (λ (r : Run). IsLeafOf r c.args.ask c.leaf_of-leaf.result) c.core-2.ensures.run c.leaf_of-leaf.ensures) (told.1 refl) in
             ap (λ e. (end_of e (held.said_in c.tell_last.new.trail)).count) c.in_ok-tell_last.ensures.start
-            ∙ counted_more (held.start_of t.trail) (held.said_in t.trail) (held.said_in c.tell_last.new.trail) told.0 (run_of t.run) (run_of after) c.args.ask c.args.by c.args.asker.now (t.counted c.if-self.false) (told.2.told refl) entry
+            ∙ counted_more (held.start_of t.trail) (held.said_in t.trail) (held.said_in c.tell_last.new.trail) told.0 (run_of t.run) (run_of after) c.args.ask c.args.by c.args.asker (t.counted c.if-self.false) (told.2.told refl) entry
       ];
     }

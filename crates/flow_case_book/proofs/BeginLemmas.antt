@@ -1,0 +1,66 @@
+-- A case begins by its texts, and its kept run begins the same.
+use Rattle.std.proofs.Common.{◌≡◌, ℕ, List, [], ◌++◌, Option, None, Some, Result, Ok, Err, IfOk, refl, sym, ap, subst, ◌∙◌}
+use Rattle.flow_model.specs.Lists.{AreDistinct}
+use Rattle.flow_model.specs.declared.history.Entry.{Entry}
+use Rattle.flow_form.specs.Script.{Said}
+use Rattle.flow_form.specs.Names.{declared_names, event_names}
+use Rattle.flow_workflow.specs.Definition.{Definition}
+use Rattle.flow_expand.specs.Workflows.{definition_of, IsExpanded}
+use Rattle.flow_expand.proofs.Endings.{becomes_one}
+use Rattle.flow_core.specs.Run.{Run}
+use Rattle.flow_case.specs.declared.case_run.CaseRun.{CaseRun}
+use Rattle.flow_case.specs.declared.case_run.CaseRun.TheVariants.{Free, UnderPolicy}
+use Rattle.flow_case.specs.CaseRun.{run_of, case_with}
+use Rattle.flow_case.specs.CasePolicy.{CaseSaid, IsCasePolicyOf}
+use Rattle.flow_case_book.specs.declared.fresh.TheConstants.{MOST_STEPS}
+use Rattle.flow_case_book.specs.Begun.{IsBegunRun, IsBegun}
+
+-- a run that is started
+pub begun_run : (s : Said) (w : Definition) (r : Run) → IsExpanded s w → r ≡ record { definition = w; limit = MOST_STEPS; history = [] } → IsBegunRun s r
+begun_run s w r x is = record {
+  workflow = subst (IsExpanded s) (sym (ap (λ (a : Run). a.definition) is)) x;
+  limit = ap (λ (a : Run). a.limit) is;
+  empty = ap (λ (a : Run). a.history) is;
+}
+
+-- its events are those that the script declares
+pub same_events : (s : Said) (r : Run) → IsBegunRun s r → event_names s.decls ≡ r.definition.events
+same_events s r b = sym (ap (λ (w : Definition). w.events) b.workflow.is)
+
+-- the case of that run under a policy
+pub governed : (s : Said) (text : List ℕ) (r : Run) (p : CaseSaid) (c : CaseRun) → IsBegunRun s r → IsCasePolicyOf text s r.definition.events p →
+    c ≡ UnderPolicy (record { desk = record { run = r; assigned = p.assigned }; rules = p.rules }) → IsBegun s (Some text) c
+governed s text r p c b policy is = subst (IsBegun s (Some text)) (sym is) (b, policy)
+
+-- the run of a case that begins
+pub run_begun : (s : Said) (policy : Option (List ℕ)) (c : CaseRun) → IsBegun s policy c → IsBegunRun s (run_of c)
+run_begun s None (Free r) b = b
+run_begun s None (UnderPolicy c) b = absurd b
+run_begun s (Some text) (Free r) b = absurd b
+run_begun s (Some text) (UnderPolicy c) (b, policy) = b
+
+-- a script has one workflow
+expanded_once : (s : Said) → AreDistinct (declared_names s.decls) → (w v : Definition) → IsExpanded s w → IsExpanded s v → w ≡ v
+expanded_once s once w v p q =
+    p.is ∙ ap (definition_of s) (becomes_one s.decls once s.goal p.expansion q.expansion p.measured.fitting.becomes q.measured.fitting.becomes) ∙ sym q.is
+
+-- the kept run begins as the run of the case
+pub begins_same : (s : Said) (r k : Run) → AreDistinct (declared_names s.decls) → IsBegunRun s r → IsExpanded s k.definition → k.limit ≡ MOST_STEPS →
+    r ≡ record k { history = [] }
+begins_same s r k once b x limit =
+    let definition = expanded_once s once r.definition k.definition b.workflow x in
+    let limits = b.limit ∙ sym limit in
+    λ i. record { definition = definition i; limit = limits i; history = b.empty i }
+
+-- the history of a case that follows entries from its beginning
+pub followed : (begun c : CaseRun) (entries : List Entry) → (run_of begun).history ≡ [] → c ≡ case_with begun entries → (run_of c).history ≡ entries
+followed (Free r) c entries empty is = ap (λ (x : CaseRun). (run_of x).history) is ∙ ap (λ (h : List Entry). h ++ entries) empty
+followed (UnderPolicy u) c entries empty is = ap (λ (x : CaseRun). (run_of x).history) is ∙ ap (λ (h : List Entry). h ++ entries) empty
+
+pub follows : (begun c : CaseRun) (entries : List Entry) → (run_of begun).history ≡ [] → c ≡ case_with begun entries → c ≡ case_with begun (run_of c).history
+follows begun c entries empty is = is ∙ ap (case_with begun) (sym (followed begun c entries empty is))
+
+-- what holds of a value that came holds of what follows from it
+pub if_ok : {A E : Type 0} (r : Result A E) (P Q : A → Type 0) → ((x : A) → P x → Q x) → IfOk r P → IfOk r Q
+if_ok (Ok x) P Q f h = f x h
+if_ok (Err e) P Q f h = h

@@ -1,0 +1,4 @@
+pub mod Begun
+pub mod Texts
+pub mod People
+pub mod Held

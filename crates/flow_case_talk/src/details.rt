@@ -1,0 +1,126 @@
+//! What the words of a refusal leave out.
+
+use crate::asked::Asked;
+use crate::book::Book;
+use crate::page::Page;
+use flow_ask::{Ask, Refusal};
+use flow_policy::Tie;
+use flow_reason::{Reason, why_leaf};
+use flow_standing::doings;
+use flow_workflow::push_leaf_label;
+use std::alloc::{AllocError, Global};
+
+/// Adds, behind the words of a refusal: the other task of a duty and who took it, who did a final task, or why a task cannot be taken
+/// or done now.
+pub(crate) fn push_details<B: Book>(
+    alloc: Global,
+    page: &mut Page,
+    book: &B,
+    asked: &Asked,
+) -> Result<(), AllocError> {
+    let Some(leaf) = asked.leaf else {
+        return Ok(());
+    };
+    match (asked.answer, asked.ask) {
+        (Err(Refusal::Separate(index)), _) => push_tie(page, book, leaf, index, Kind::Separate),
+        (Err(Refusal::Bind(index)), _) => push_tie(page, book, leaf, index, Kind::Bind),
+        (Err(Refusal::Final { .. }), _) => push_doing(alloc, page, book, leaf),
+        (Err(Refusal::NotEnabled | Refusal::TestFalse), Ask::Take(_) | Ask::Do(_)) => {
+            page.text(": ")?;
+            push_reason(alloc, page, book, leaf)
+        }
+        _ => Ok(()),
+    }
+}
+
+/// The kind of a duty.
+#[derive(Clone, Copy)]
+enum Kind {
+    Separate,
+    Bind,
+}
+
+/// Adds the other task of the duty, and who took it.
+fn push_tie<B: Book>(
+    page: &mut Page,
+    book: &B,
+    leaf: u32,
+    index: u32,
+    kind: Kind,
+) -> Result<(), AllocError> {
+    let (Some(policy), Some(event)) = (book.policy(), book.core().workflow().tree().event(leaf))
+    else {
+        return Ok(());
+    };
+    let ties = match kind {
+        Kind::Separate => policy.separations(event),
+        Kind::Bind => policy.bindings(event),
+    };
+    match ties.iter().find(|tie| tie.index == index) {
+        Some(tie) => push_other(page, book, *tie),
+        None => Ok(()),
+    }
+}
+
+/// Adds the other task of the tie, and who took it.
+fn push_other<B: Book>(page: &mut Page, book: &B, tie: Tie) -> Result<(), AllocError> {
+    page.text(" (")?;
+    page.bytes(book.core().workflow().event_name(tie.other))?;
+    if let Some(taker) = book.core().taker_of_event(tie.other) {
+        page.text(", which ")?;
+        page.text(book.user_name(taker))?;
+        page.text(" took")?;
+    }
+    page.text(")")
+}
+
+/// Adds the entry by which the leaf was done, and by whom.
+fn push_doing<B: Book>(
+    alloc: Global,
+    page: &mut Page,
+    book: &B,
+    leaf: u32,
+) -> Result<(), AllocError> {
+    for doing in doings(alloc, book.core())?.iter() {
+        if doing.leaf == leaf {
+            page.text(": entry ")?;
+            page.ordinal(doing.place)?;
+            page.text(", by ")?;
+            return page.text(book.user_name(doing.by));
+        }
+    }
+    Ok(())
+}
+
+/// Adds why the leaf is not taken or done now. Entries are counted from 1, as the history shows them.
+pub(crate) fn push_reason<B: Book>(
+    alloc: Global,
+    page: &mut Page,
+    book: &B,
+    leaf: u32,
+) -> Result<(), AllocError> {
+    let mut words = Vec::new(alloc);
+    let reason = why_leaf(alloc, book.core(), leaf)?;
+    let (state, entry, user) = match &reason {
+        Reason::Done { entry } => (" is done: entry ", *entry, user_of(book, *entry)),
+        Reason::Out { entry, user, .. } => (" is out: entry ", *entry, *user),
+        _ => {
+            reason.print(&mut words, book.core().workflow(), leaf)?;
+            return page.bytes(&words);
+        }
+    };
+    push_leaf_label(&mut words, book.core().workflow(), leaf)?;
+    page.bytes(&words)?;
+    page.text(state)?;
+    page.ordinal(entry)?;
+    page.text(", by ")?;
+    page.text(book.user_name(user))
+}
+
+/// The user who made the entry at the place.
+fn user_of<B: Book>(book: &B, place: usize) -> u32 {
+    match book.core().history().get(place) {
+        Some(entry) => entry.by,
+        None => 0,
+    }
+}

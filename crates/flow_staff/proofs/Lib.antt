@@ -1,0 +1,2 @@
+mod RoleSteps
+mod RoleLemmas

@@ -1,0 +1,77 @@
+//! Why a case is not made, read or opened, in words.
+
+use crate::{DISK, NO_MEMORY};
+use flow_case_book::CaseStop;
+use flow_case_files::FolderFault;
+use flow_front::{Status, Stop};
+
+/// The status where the case is refused.
+const REFUSED: u8 = 1;
+
+/// The status where a text is refused.
+const TEXT: u8 = 3;
+
+/// The status where another process has the case.
+const IN_USE: u8 = 9;
+
+/// Says why the folder of a case is not read or opened, and gives the status.
+pub(crate) fn tell_folder(rt: &impl Eprint, case: &str, fault: FolderFault) -> u8 {
+    match fault {
+        FolderFault::Exists => {
+            let _ = eprintln!(rt; "{case}: there is something of that name, or of {case}.new");
+            DISK
+        }
+        FolderFault::NoCase(name) => {
+            let _ = eprintln!(rt; "{case}: it is no case: there is no file {name} in it");
+            DISK
+        }
+        FolderFault::InUse => {
+            let _ = eprintln!(rt; "{case} is in use");
+            IN_USE
+        }
+        FolderFault::System(error) => {
+            let _ = eprintln!(rt; "{case}: {error}");
+            DISK
+        }
+        FolderFault::NoMemory => NO_MEMORY,
+    }
+}
+
+/// Says that the workflow is refused, and gives the status.
+fn tell_workflow(rt: &impl Eprint, case: &str, stop: &Stop) -> u8 {
+    match stop {
+        Stop::Refused(refused) => {
+            let _ = eprintln!(rt;
+                "{case}: the workflow is refused: `flowdesk explain FILE` tells why"
+            );
+            Status::of(refused).code()
+        }
+        Stop::NoMemory => NO_MEMORY,
+    }
+}
+
+/// Says why a case is not opened or made, and gives the status.
+pub(crate) fn tell_stop(rt: &impl Eprint, case: &str, stop: CaseStop) -> u8 {
+    match stop {
+        CaseStop::Workflow(stop) => tell_workflow(rt, case, &stop),
+        CaseStop::Policy(refusal) => {
+            let _ = eprintln!(rt; "{case}: the policy is refused: {refusal}");
+            TEXT
+        }
+        CaseStop::Foreign(index) => {
+            let _ = eprintln!(rt;
+                "{case}: entry {index} of run.keep, from 0, is not legal in this workflow"
+            );
+            REFUSED
+        }
+        CaseStop::Trail(refusal) => {
+            let _ = eprintln!(rt; "{case}: {refusal}");
+            REFUSED
+        }
+        CaseStop::Disk => {
+            let _ = eprintln!(rt; "{case}: a file could not be read or written");
+            DISK
+        }
+        CaseStop::NoMemory => NO_MEMORY,
+    }
+}
