@@ -27,7 +27,7 @@ import tempfile
 import time
 
 from desk import FLOW, Desk, Workflow
-from measuring import TOP
+from measuring import TOP, keep_results
 from traces import a_thousand_leaves_by_the_last_of_256_options, sixty_four_leaves_by_the_last_of_4_096_options
 
 MOST_JOURNALS = 1_024
@@ -210,13 +210,15 @@ def told_by(program, words, files):
 def times(program, options):
     columns = ["1", "2", "4", "1 by 4", "checked", "machine", "by trace", "1 by trace"]
     print(f"{'journals':<52}{'count':>6}" + "".join(f"{column:>11}" for column in columns) + "  ends with")
+    rows = []
     for name, of in ROWS:
         with tempfile.TemporaryDirectory() as folder:
-            row_of(program, options, name, of, pathlib.Path(folder))
+            rows.append(row_of(program, options, name, of, pathlib.Path(folder)))
+    keep_results("audits", ["journals", "count", *(f"{column} workers, ms" for column in columns[:3]), *columns[3:]], rows)
 
 
 def row_of(program, options, name, of, folder):
-    """Prints the row of journals of that kind."""
+    """Prints the row of journals of that kind, and gives it."""
     workflow, lines = KINDS[name]()
     room = GREATEST_INPUT - len(workflow) - 2
     count = min(options.journals, room // (len(lines) + 3))
@@ -236,7 +238,9 @@ def row_of(program, options, name, of, folder):
     rest = f"{(best[0] - best[4]) / (best[2] - best[4]):.2f}" if best[2] > best[4] else "-"
     told = [*(f"{spent:.1f}" for spent in best[:3]), f"{best[0] / best[2]:.2f}", rest, f"{4 * best[0] / best[5]:.2f}", f"{by_trace:.0f}",
             f"{best[0] / by_trace:.2f}" if by_trace > 0 else "-"]
-    print(f"{name + ('' if of is all_alike else ', each fourth'):<52}{count:>6}" + "".join(f"{column:>11}" for column in told) + f"  {min(lasts)}", flush=True)
+    title = name + ("" if of is all_alike else ", each fourth")
+    print(f"{title:<52}{count:>6}" + "".join(f"{column:>11}" for column in told) + f"  {min(lasts)}", flush=True)
+    return title, count, *told
 
 
 PARTS = {"model": model, "times": times}

@@ -158,7 +158,7 @@ CHANGES = [
         "A refusal of a text is data of `flow_form`, found by the reader or by the check of names. `flow_desk/src/stop.rt` tells its line "
         "and column.",
         "A refusal of a call of a run has its place in the table of answers, and a number that reports show.",
-        "FORMATS and SURPRISES have each refusal with its cause.",
+        "docs/reference and SURPRISES have each refusal with its cause.",
     ], [Thing("a refusal of a text: of its bytes, its grammar, its names", r"\bNotAscii\b|\bTooDeep\b|\bRepeated\b",
               r"(refused: |`)(byte|deep|repeated)\b"),
         Thing("a refusal of a workflow", r"\bRecursive\b", r"\brecursive\b|in a ring"),

@@ -6,7 +6,7 @@ Usage: bench/documents.py [--write] [DOCUMENT.md ..] [FLOW [FLOWKEEP [FLOWDESK]]
 All documents, and the programs crates/NAME/out/NAME, where they are not given. docs/DOCUMENTS.md has the form of what is shown.
 COOKBOOK and SURPRISES have their blocks as rows of crates/test_cases/data too: each block has its rows and each row its block, byte
 for byte; `--write` writes these rows, with what the program writes. Where all documents are tried, docs/CHANGING.md must be what
-bench/changing.py makes of the tree. Ends with 1 where a document and the program, a row, or the tree differ.
+bench/changing.py makes of the tree, and the table of docs/BENCHES.md what bench/benches.py makes of the results. Ends with 1 where a document and the program, a row, or the tree differ.
 """
 import pathlib
 import re
@@ -16,12 +16,14 @@ import tempfile
 
 from blocks import (ASKING, PARTS, PLAIN, WORDS, Faulty, columns, first_difference, is_alike, looks_like_one, read_blocks,
                     wrong_links)
+import benches
 import changing
 from executions import Workflow
 from templates import holds_by_hand, named_lists
 
 TOP = pathlib.Path(__file__).resolve().parent.parent
-DOCUMENTS = ["README.md", "docs/COOKBOOK.md", "docs/SURPRISES.md", "docs/FORMATS.md", "docs/SCALE.md", "examples/README.md"]
+DOCUMENTS = ["README.md", "docs/GUIDE.md", "docs/COOKBOOK.md", "docs/SURPRISES.md", "docs/FORMATS.md", "docs/SCALE.md",
+             *sorted(str(path.relative_to(TOP)) for path in (TOP / "docs/reference").glob("*.md")), "examples/README.md"]
 ROWS = {"docs/COOKBOOK.md": "cookbook.rows", "docs/SURPRISES.md": "surprises.rows"}
 PROGRAMS = ["flow", "flowkeep", "flowdesk"]
 LINKED = ["examples", "bench", "docs", "man", "completions", "install", "README.md"]
@@ -334,7 +336,7 @@ def main(words):
                 counts[block.word] = counts.get(block.word, 0) + 1
             print(f"{name}: {len(document.blocks)} blocks, {len(rows)} calls shown, {len(document.faults)} faults")
     if named == DOCUMENTS:
-        faults += changing.faults()
+        faults += changing.faults() + benches.faults()
     print("\n".join(faults), end="\n" if faults else "")
     blocks = ", ".join(f"{word} {counts[word]}" for word in sorted(counts))
     print(f"{sum(counts.values())} blocks ({blocks}), {rowed} rows, {calls} calls: {len(faults)} faults")

@@ -6,7 +6,7 @@ The program is crates/flow/out/flow where none is named. The least time of five 
 generated text; `grows` is the time at the limit over that at half of it.
 """
 from generated import text as generated
-from measuring import arguments, by_turns
+from measuring import arguments, by_turns, keep_results
 
 MOST_LEAVES = 4096
 MOST_LINES = 16384
@@ -246,6 +246,7 @@ def a_trace_of_choices_in_series_over_64_options(leaves):
 def main():
     program, wanted = arguments()
     greatest = generated(3, 128).encode()
+    rows = []
     print(f"{'case':<58}{'ms':>9}{'grows':>7}{'times':>8}{'MB':>6}  ends with")
     for name, make in CASES.items():
         if wanted and not any(word in name for word in wanted):
@@ -253,7 +254,11 @@ def main():
         (words, whole), (_, half) = make(MOST_LEAVES), make(MOST_LEAVES // 2)
         (base, _, _), = by_turns(program, ["check"], greatest)
         (seconds, peak, last), (less, _, _) = by_turns(program, words, whole.encode(), half.encode())
+        rows.append((name, seconds * 1000, seconds / less, seconds / base, peak))
         print(f"{name:<58}{seconds * 1000:>9.1f}{seconds / less:>7.1f}{seconds / base:>8.1f}{peak:>6.0f}  {last[:40]}", flush=True)
+
+    if not wanted:
+        keep_results("folded", ["case", "ms", "times half of it", "times", "MB"], rows)
 
 
 if __name__ == "__main__":

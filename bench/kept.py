@@ -12,8 +12,8 @@ damage   10,000 files with one byte changed, of sessions with entries of all kin
 faults   every open, read, write and sync made to fail in turn, by failing.c: the status, the line, and that the file keeps every step
          whose reply was written; and reads and writes of a few bytes each: the usual answer
 calls    every system call on the file and its folder, as strace tells them (`apt-get update && apt-get install -y strace`): the file is
-         opened without being cut off, locked, and its folder synced where it is empty; then a sync, and a read a record; and of each
-         entry a write, a sync, a write and a sync, at their places: these calls, in this order, and no other
+         opened without being cut off, locked, and its folder synced where it is empty; then a sync, and a read a record, and in an empty
+         file a byte and a sync; and of each entry a write, a sync, a write and a sync, at their places: these calls, in this order
 two      a second process on a file that a first one has is refused, leaves the file alone, and opens it once the first has ended
 speed    by turns: the microseconds of a kept step, and of a transaction of SQLite with a sync each, in its default journal and with a
          write-ahead log; and the seconds and megabytes in which a file of 1,000,000 records is opened and its report written
@@ -34,7 +34,7 @@ import sys
 import tempfile
 import time
 
-from measuring import TOP
+from measuring import TOP, keep_results
 
 KEEP = str(TOP / "crates/flowkeep/out/flowkeep")
 FLOW = str(TOP / "crates/flow/out/flow")
@@ -315,7 +315,7 @@ def try_calls(folder):
     count = 0
     for name, (workflow, session) in SESSIONS.items():
         path, lines = folder / f"{name}.called", session.split("/")
-        entries = len(driven(workflow, lines))
+        entries = len(history_of(kept_by(folder / f"{name}.usual", workflow, lines)[1]))
         for what, lines, expected in (("first", lines, calls_of_first(entries)), ("next", [], calls_of_next(entries))):
             calls = calls_on(path, workflow, lines)
             count += len(calls)
@@ -387,6 +387,7 @@ def try_speed(folder):
         steps["kept"].append(kept_step(folder, 400))
         steps["sqlite"].append(sqlite_step(folder, "delete", 400))
         steps["sqlite, write-ahead"].append(sqlite_step(folder, "wal", 400))
+    rows = [(f"a step, {name}, us", statistics.median(each), min(each)) for name, each in steps.items()]
     for name, each in steps.items():
         print(f"speed: {name}: {statistics.median(each):.0f} microseconds a step (the least {min(each):.0f})")
     kept = statistics.median(steps["kept"])
@@ -402,6 +403,8 @@ def try_speed(folder):
         call = subprocess.run(["/usr/bin/time", "-f", "%M", KEEP, str(path), "--steps", "1000000"], stdin=source, capture_output=True, check=False)
         spent, memory = time.perf_counter() - begun, int(call.stderr.split()[-1]) / 1024
     print(f"speed: 1,000,000 records opened, and {len(call.stdout) / 1e6:.0f} MB of report written: {spent:.2f} s, {memory:.0f} MB")
+    rows += [("1,000,000 records opened and told, ms", spent * 1000, ""), ("the same, MB", memory, "")]
+    keep_results("kept", ["what", "median", "least"], rows)
     if not call.stdout.startswith(b"kept 1000000\n") or spent > 2 or memory > 110:
         wrong("1,000,000 records are opened in more than 2 seconds, or by more than 110 MB")
 

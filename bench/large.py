@@ -14,7 +14,7 @@ import subprocess
 import tempfile
 import time
 
-from measuring import TOP, arguments
+from measuring import TOP, arguments, keep_results
 
 CALLS = 15
 
@@ -34,6 +34,7 @@ def main():
     program, words = arguments()
     seed, size = words[:2] or ["3", "128"]
     flow = [program, "large", "--seed", seed, "--size", size]
+    rows = []
     with tempfile.TemporaryDirectory() as place:
         plain = str(pathlib.Path(place) / "large")
         subprocess.run(["rustc", "-O", "--edition", "2021", "-o", plain, str(TOP / "bench/plain/large.rs")], check=True)
@@ -42,8 +43,12 @@ def main():
             told = list(zip(*[[spent(call) for call in calls] for _ in range(CALLS)]))
             assert len({line for one in told[:3] for _, line, _ in one}) == 1, "they write different lines"
             ours, beside, alone, before = [min(took for took, _, _ in one) for one in told]
+            rows.append((workers, ours, beside, alone))
             table_row("all", workers, ours, beside, alone)
             table_row("the run alone", workers, ours - before, *[min(int(run) for _, _, run in one) / 1000 for one in told[1:3]])
+
+    if not words:
+        keep_results("large", ["workers", "ms", "plain Rust behind a lock, ms", "plain Rust, ms"], rows)
 
 
 if __name__ == "__main__":

@@ -6,9 +6,10 @@ Usage: bench/logs.py [PROGRAM] [--large [--plain PROGRAM]]     crates/flowdesk/o
 - Random logs: quotes, line ends of both kinds, bad rows, mixed cases. Cases, lines, sequences and verdicts are compared.
 - 2,000 cases of the laboratory, of which 5 % are spoilt in eight ways: each is found with its reason, and no other.
 - One thread beside four: the same bytes.
-- Journals: `flow trace` accepts each (crates/flow/out/flow must be there).
+- Journals of 2,000 cases: `flow trace` gives each the verdict that was told (crates/flow/out/flow must be there).
 - With --large: a log of 1 GB (10 million events, a million cases, 5,000 sequences), time and memory. PROGRAM behind --plain
-  reads the same file by a plain loop of the kit's csv: `PROGRAM count FILE`.
+  reads the same file by a plain loop of the kit's csv (bench/plain/count_rows.txt): `PROGRAM FILE`. In turns with it, the log is
+  to take at most 1.5 times as long, and 300 MB.
 """
 import argparse
 import collections
@@ -24,6 +25,8 @@ import subprocess
 import sys
 import tempfile
 import time
+
+from measuring import keep_results
 
 ROOT = pathlib.Path(__file__).resolve().parent.parent
 LABORATORY = ROOT / "examples/laboratory.flow"
@@ -271,6 +274,19 @@ def check_threads(program, folder):
     return None
 
 
+def told_of_sequences(program, path):
+    """The verdict of each sequence, in the order in which sequences come."""
+    *rows, _ = [json.loads(line) for line in log(program, path, "--form", "json")[1].decode().splitlines()]
+    cases = collections.defaultdict(list)
+    with open(path, newline="") as file:
+        for row in csv.DictReader(file):
+            cases[row["case"]].append(row["activity"])
+    told = {}
+    for row in rows:
+        told.setdefault(tuple(cases[row["case"]]), row["verdict"])
+    return list(told.values())
+
+
 def check_journals(program, folder):
     flow = ROOT / "crates/flow/out/flow"
     if not flow.exists():
@@ -279,13 +295,19 @@ def check_journals(program, folder):
     target = folder / "journals"
     target.mkdir()
     log(program, folder / "spoilt.csv", "--journals", str(target))
-    told = collections.Counter()
-    for path in target.iterdir():
-        done = subprocess.run([flow, "trace"], stdin=open(path), capture_output=True, text=True)
-        told[done.stdout.strip().splitlines()[-1] if done.stdout else done.stderr] += 1
-    if not told or set(told) - {"execution", "prefix"}:
-        return f"journals: {told}"
-    print(f"journals             {dict(told)} by flow trace")
+    words, tried = {"execution": "execution", "front": "prefix"}, collections.Counter()
+    for number, verdict in enumerate(told_of_sequences(program, folder / "spoilt.csv"), 1):
+        path = target / f"{number}.flow"
+        if path.exists() != (verdict in words):
+            return f"sequence {number}, {verdict}: {'a' if path.exists() else 'no'} journal"
+        if path.exists():
+            done = subprocess.run([flow, "trace"], stdin=open(path), capture_output=True, text=True)
+            if done.stdout.strip() != words[verdict]:
+                return f"sequence {number}, {verdict}: flow trace says {done.stdout or done.stderr}"
+            tried[verdict] += 1
+    if not tried:
+        return "no journal"
+    print(f"journals             {dict(tried)}: flow trace gives each its verdict")
     return None
 
 
@@ -327,21 +349,36 @@ def timed(words):
 
 
 def large(program, plain, path):
+    """Times of the log and of the plain loop, in turns; the ratio of the least of each."""
     if not path.exists():
         print("written", write_large(path), f"{path.stat().st_size / 1e6:.0f} MB")
-    for words in ([[plain, "count", str(path)]] if plain else []) + [
-            [program, "log", str(path), "--workflow", str(LABORATORY), "--jobs", jobs] for jobs in ("1", "4")]:
-        for _ in range(2):
+    calls = {f"log, {jobs} threads": [program, "log", str(path), "--workflow", str(LABORATORY), "--jobs", jobs] for jobs in ("1", "4")}
+    if plain:
+        calls["plain loop"] = [plain, str(path)]
+    rows, walls, memories = [], collections.defaultdict(list), collections.defaultdict(list)
+    for _ in range(3):
+        for name, words in calls.items():
             out, status, wall, processor, memory = timed(words)
-            print(f"{' '.join(map(str, words[:2])):40} status {status}  {wall:6.2f} s  {processor:6.2f} CPU s  {memory:6.0f} MB  load {os.getloadavg()[0]:.1f}")
-    print(out.decode()[:600])
+            walls[name].append(processor if name != "log, 4 threads" else wall)
+            memories[name].append(memory)
+            rows.append((name, wall, processor, memory))
+            print(f"{name:16} status {status}  {wall:6.2f} s  {processor:6.2f} CPU s  {memory:6.0f} MB  load {os.getloadavg()[0]:.1f}")
+    keep_results("logs", ["call", "s", "processor s", "MB"], rows)
+    if max(memories["log, 1 threads"]) > 300:
+        return f"large: {max(memories['log, 1 threads']):.0f} MB"
+    if plain:
+        ratio = min(walls["log, 1 threads"]) / min(walls["plain loop"])
+        print(f"large                {ratio:.2f} times the plain loop, by processor seconds of one thread")
+        if ratio > 1.5:
+            return f"large: {ratio:.2f} times the plain loop"
+    return None
 
 
 def main():
     words = argparse.ArgumentParser()
     words.add_argument("program", nargs="?", default=ROOT / "crates/flowdesk/out/flowdesk")
     words.add_argument("--large", action="store_true")
-    words.add_argument("--plain")
+    words.add_argument("--plain", type=lambda name: str(pathlib.Path(name).resolve()))
     words.add_argument("--rounds", type=int, default=200)
     words.add_argument("--file", default="/tmp/large_log.csv")
     given = words.parse_args()
@@ -354,7 +391,10 @@ def main():
                 print(fault)
                 return 1
     if given.large:
-        large(program, given.plain, pathlib.Path(given.file))
+        fault = large(program, given.plain, pathlib.Path(given.file))
+        if fault:
+            print(fault)
+            return 1
     return 0
 
 

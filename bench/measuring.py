@@ -1,4 +1,5 @@
-"""What a call of the program takes. GNU time (/usr/bin/time) counts its memory."""
+"""What a call of the program takes, and where it is kept. GNU time (/usr/bin/time) counts its memory."""
+import datetime
 import os
 import pathlib
 import subprocess
@@ -6,6 +7,7 @@ import sys
 import time
 
 TOP = pathlib.Path(__file__).resolve().parent.parent
+RESULTS = TOP / "bench/results"
 
 
 def arguments():
@@ -43,3 +45,28 @@ def by_turns(program, words, *sources):
 def measured(program, words, source):
     """The least seconds of five calls, the most memory in MB, and the last line of what was written."""
     return by_turns(program, words, source)[0]
+
+
+def told_by(*words):
+    """The first line that a call writes; nothing where there is no such program."""
+    try:
+        return subprocess.run(words, capture_output=True, text=True, cwd=TOP, check=False).stdout.partition("\n")[0]
+    except OSError:
+        return ""
+
+
+def where():
+    """The commit, the date, the processor and the kit, as the first line of results tells them."""
+    commit = told_by("git", "rev-parse", "--short", "HEAD") + ("-changed" if told_by("git", "status", "--porcelain", "-uno") else "")
+    lines = pathlib.Path("/proc/cpuinfo").read_text().splitlines()
+    names = [line.partition(": ")[2] for line in lines if line.startswith("model name")]
+    kit = told_by("rt", "version").partition(" ")[0]
+    return f"# commit {commit}\tdate {datetime.date.today()}\tprocessor {len(names)} x {names[0] if names else '?'}\tkit {kit}"
+
+
+def keep_results(name, heads, rows):
+    """Writes bench/results/NAME.tsv: where it was measured, the heads of the columns, and a row a line."""
+    RESULTS.mkdir(exist_ok=True)
+    cells = [heads, *([f"{cell:.4g}" if isinstance(cell, float) else str(cell) for cell in row] for row in rows)]
+    text = "\n".join([where(), *("\t".join(row) for row in cells)]) + "\n"
+    (RESULTS / f"{name}.tsv").write_text(text, encoding="utf-8")

@@ -14,7 +14,7 @@ mermaid  each leaf has one node with that label; `mmdc` takes it, where the mach
 
 A file without an end (/dev/zero) is refused as too long, in less than a gigabyte of memory.
 
-It prints how long the greatest pictures take (4,096 leaves, and 1,024 events over 64 options). docs/pictures has what README shows: the script
+It prints how long the greatest pictures take (4,096 leaves, and 1,024 events over 64 options). docs/pictures has what pages show: the script
 ends with 1 where the program draws something else, and --write writes it. --look makes a PNG of each SVG in FOLDER, in light and in dark, by
 a Chromium without a screen. Ends with 1 where something is not as it is said here.
 """
@@ -238,7 +238,7 @@ def try_all(flowdesk, flow, name, workflow, folder, options):
 
 
 def shown_pictures(flowdesk, options):
-    """Compares what README shows with what is drawn."""
+    """Compares what the reference shows with what is drawn; README compares its picture itself."""
     for picture, (name, _) in SHOWN.items():
         text, _ = drawn(flowdesk, TOP / f"examples/{name}.flow", "svg")
         file = TOP / "docs/pictures" / picture

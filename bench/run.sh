@@ -3,7 +3,7 @@
 #
 # Usage: bench/run.sh [PROGRAM]     crates/flow/out/flow where it is not given
 #
-# Ends with 1 where one of them found what should not be. turns.sh and wrong_crews.py build programs of their own and take
+# Ends with 1 where one of them found what should not be. turns.sh and planted.py build programs of their own and take
 # some minutes.
 set -u
 cd "$(dirname "$0")" || exit
@@ -17,7 +17,7 @@ for bench in worst folded sessions traces audits duties large hostile; do
     echo "== $bench"
     "./$bench.py" "$program" || status=1
 done
-for bench in words.py turns.sh wrong_crews.py; do
+for bench in words.py turns.sh planted.py; do
     echo "== ${bench%.*}"
     "./$bench" || status=1
 done

@@ -23,7 +23,7 @@ import sys
 import tempfile
 import time
 
-from measuring import TOP
+from measuring import TOP, keep_results
 
 AT_ONCE = 500
 # As many journals as an audit takes.
@@ -34,6 +34,7 @@ RECKONED = 64
 DESK = (TOP / "examples/order_desk.flow").read_text()
 LOOP = 'for case in "$@"; do {call} < "$case" > "$case.answer"; echo $?; done'
 WRONG = []
+KEPT = []
 
 
 def lines_of(ending):
@@ -89,6 +90,7 @@ def row(what, count, seconds):
     """A row of the table: of each number of processors the cases a second."""
     rates = [count / it for it in seconds]
     ratio, most = rates[-1] / rates[0], rates[-1] * RECKONED / PROCESSORS[-1]
+    KEPT.append((what.replace("`", ""), count, *(round(rate) for rate in rates), ratio))
     print(f"| {what} | {count:,} | " + " | ".join(f"{rate:,.0f}" for rate in rates) + f" | {ratio:.1f} | {most:,.0f} |", flush=True)
 
 
@@ -170,6 +172,7 @@ def main():
     in_folder(given.folder, given.cases, sessions, of_sessions)
     in_folder(given.folder, given.cases, journal, of_journals)
     in_folder(given.disk, given.kept, sessions, lambda folder: try_mode("`flowkeep`, files on a disk", keep, folder))
+    keep_results("scale", ["call", "cases", *(f"a second by {it}" for it in PROCESSORS), "ratio"], KEPT)
     print("\n".join(WRONG) or "each way to ask came to the same")
     sys.exit(1 if WRONG else 0)
 

@@ -3,7 +3,7 @@
 
 Usage: bench/sessions.py [PROGRAM] [WORD ..]   the sessions whose names have one of the words, or all of them
 """
-from measuring import TOP, arguments, measured
+from measuring import TOP, arguments, keep_results, measured
 from worst import named, names
 
 MOST_LINES = 16_384
@@ -147,13 +147,18 @@ def a_thousand_beside_taken_done_and_looked_at():
 
 def main():
     program, wanted = arguments()
+    rows = []
     print(f"{'session':<58}{'ms':>8}{'MB':>6}  ends with")
     for name, make in SESSIONS.items():
         if wanted and not any(word in name for word in wanted):
             continue
         words, source = make()
         seconds, peak, last = measured(program, words, source.encode())
+        rows.append((name, seconds * 1000, peak))
         print(f"{name:<58}{seconds * 1000:>8.0f}{peak:>6.0f}  {last[:40]}", flush=True)
+
+    if not wanted:
+        keep_results("sessions", ["session", "ms", "MB"], rows)
 
 
 if __name__ == "__main__":

@@ -3,7 +3,7 @@
 
 Usage: bench/traces.py [PROGRAM] [WORD ..]   the traces whose names have one of the words, or all of them
 """
-from measuring import arguments, measured
+from measuring import arguments, keep_results, measured
 from worst import choice_events, choices, named, names
 
 TRACES = {}
@@ -66,12 +66,17 @@ def twenty_six_isolated_pairs_over_4_096_options():
 
 def main():
     program, wanted = arguments()
+    rows = []
     print(f"{'trace':<58}{'ms':>8}{'MB':>6}  ends with")
     for name, make in TRACES.items():
         if wanted and not any(word in name for word in wanted):
             continue
         seconds, peak, last = measured(program, ["trace"], make().encode())
+        rows.append((name, seconds * 1000, peak))
         print(f"{name:<58}{seconds * 1000:>8.0f}{peak:>6.0f}  {last[:40]}", flush=True)
+
+    if not wanted:
+        keep_results("traces", ["trace", "ms", "MB"], rows)
 
 
 if __name__ == "__main__":

@@ -1,5 +1,6 @@
 #!/usr/bin/env python3
-"""The words of the command line and of the texts, as documents, man pages, completions and editors' files have them, beside the code.
+"""The words of the command line and of the texts, as documents, man pages, completions and editors' files have them, beside the code;
+and the prose of the pages: lines, sentences and words (bench/prose.py).
 
 Usage: bench/words.py
 
@@ -11,6 +12,8 @@ import json
 import pathlib
 import re
 import sys
+
+import prose
 
 TOP = pathlib.Path(__file__).resolve().parent.parent
 
@@ -129,8 +132,8 @@ def of_vscode():
     return {"commands": words.pop("command", set()), "statements": words.pop("policy", set()), "reserved words": set().union(*words.values())}
 
 
-def of_formats():
-    page = text("docs/FORMATS.md")
+def of_reference():
+    page = text("docs/reference/statuses.md")
     command_line = between("## The command line", "\n## ", page)
     bounds = re.findall(r"(?m)^\| `--(\w+) N` \|.*\| ([\d,]+) \| ([\d,]+) \| ([\d,]+) \|$", command_line)
     return {
@@ -138,7 +141,7 @@ def of_formats():
         "modes of the usage lines": set(re.search(r"modes: ([a-z ]+)", command_line)[1].split()),
         "options": {name: tuple(map(figure, rest)) for name, *rest in bounds},
         "option names": found(r"\[--(\w+) N\]", re.search(r"usage: flow MODE.*", command_line)[0]),
-        "reserved words": found(r"[a-z]+", re.search(r"Reserved are: `([a-z\s]+)`", page)[1]),
+        "reserved words": found(r"[a-z]+", between("Reserved are:", ".", text("docs/reference/text.md"))),
     }
 
 
@@ -163,7 +166,7 @@ FILES = {
     "completions/_flow": of_zsh,
     "editors/vim/syntax/flow.vim": of_vim,
     "editors/vscode/syntaxes/flow.tmLanguage.json": of_vscode,
-    "docs/FORMATS.md": of_formats,
+    "docs/reference": of_reference,
 }
 
 
@@ -182,7 +185,10 @@ def main():
                     wrong += 1
                     print(f"{file}: {kind}: it {sign} {', '.join(sorted(map(str, rest)))}")
     print(f"{compared} words in {len(FILES)} files, {wrong} differences")
-    sys.exit(1 if wrong else 0)
+    faults = prose.look()
+    print("\n".join(faults), end="\n" if faults else "")
+    print(f"{len(prose.pages())} pages, {len(faults)} faults of prose")
+    sys.exit(1 if wrong or faults else 0)
 
 
 if __name__ == "__main__":

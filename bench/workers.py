@@ -19,7 +19,7 @@ import subprocess
 import sys
 import tempfile
 
-from measuring import TOP
+from measuring import TOP, keep_results
 
 CRATE = "worker_bench"
 LINE = f"{CRATE}: flow_model flow_form flow_text flow_workflow flow_expand flow_plan flow_excise flow_core flow_gate flow_crew\n"
@@ -76,13 +76,14 @@ def is_fine(kind, took):
 
 
 def main():
-    fine = True
+    fine, rows = True, []
     with tempfile.TemporaryDirectory() as folder:
         program = sys.argv[1] if sys.argv[1:] else build(pathlib.Path(folder))
         call = [os.path.abspath(program)]
         for kind, *rest in TABLES:
             took = measured(call, kind, *rest)
             told(f"{kind}, {rest[0]} microseconds", took)
+            rows += [(f"{kind}, {rest[0]} us", workers, millis) for workers, millis in took.items()]
             fine = fine and is_fine(kind, took)
         busy = [subprocess.Popen([sys.executable, "-c", "while True: pass"]) for _ in range(2 * (os.cpu_count() or 1))]
         try:
@@ -91,6 +92,7 @@ def main():
             for one in busy:
                 one.kill()
                 one.wait()
+    keep_results("workers", ["tasks", "workers", "ms"], rows)
     return 0 if fine else 1
 
 

@@ -11,7 +11,7 @@ import subprocess
 import tempfile
 
 from generated import text as generated
-from measuring import TOP, arguments, by_turns, measured
+from measuring import TOP, arguments, by_turns, keep_results, measured
 
 GREATEST_INPUT = 1_048_576
 TEXTS = {}
@@ -678,7 +678,7 @@ def main():
     base, base_peak, _ = measured(program, ["check"], greatest)
     print(f"the greatest generated text: {base * 1000:.0f} ms, {base_peak:.0f} MB")
     print(f"{'text':<58}{'bytes':>9}{'ms':>8}{'times':>7}{'MB':>6}  ends with")
-    worst, most = 0, 0
+    worst, most, rows = 0, 0, [("the greatest generated text", base * 1000, 1, base_peak)]
     for name, make in TEXTS.items():
         if wanted and not any(word in name for word in wanted):
             continue
@@ -686,8 +686,11 @@ def main():
         assert len(source) <= GREATEST_INPUT, name
         (base, _, _), (seconds, peak, last) = by_turns(program, ["check"], greatest, source)
         worst, most = max(worst, seconds / base), max(most, peak)
+        rows.append((name, seconds * 1000, seconds / base, peak))
         print(f"{name:<58}{len(source):>9}{seconds * 1000:>8.0f}{seconds / base:>7.1f}{peak:>6.0f}  {last[:40]}", flush=True)
     print(f"at most {worst:.1f} times the generated text, and {most:.0f} MB")
+    if not wanted:
+        keep_results("worst", ["text", "ms", "times", "MB"], rows)
 
 
 if __name__ == "__main__":

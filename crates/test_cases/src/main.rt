@@ -4,15 +4,21 @@
 
 mod colliding;
 mod costs;
+mod dialogues;
 mod drawn;
+mod explained;
 mod kept;
+mod linted;
 mod pieces;
 mod rows;
 
 use anyhow::{Context, Result};
 use costs::{answer, is_cheap};
+use dialogues::spoken_by;
 use drawn::drawn_by;
+use explained::explained_by;
 use kept::{call_of, stands_when_stopped};
+use linted::linted_by;
 use rows::Row;
 use std::alloc::Global;
 use std::rt::{Env, Files};
@@ -70,9 +76,17 @@ fn is_kept<R: Print + AllocGlobal>(rt: &R, words: &[String], row: &Row<'_>) -> R
     Ok(false)
 }
 
-/// Whether the call of `flowdesk` draws what the row says.
+/// Whether the call of `flowdesk` draws, tells or replies what the row says.
 fn is_drawn<R: Print + AllocGlobal>(rt: &R, words: &[String], row: &Row<'_>) -> Result<bool> {
-    let (status, written) = drawn_by(rt.alloc(), words, row)?;
+    let (status, written) = if row.words.starts_with("flowdesk explain") {
+        explained_by(rt.alloc(), words, row)?
+    } else if row.words.starts_with("flowdesk open") {
+        spoken_by(rt.alloc(), words, row)?
+    } else if row.words.starts_with("flowdesk lint") {
+        linted_by(rt.alloc(), words, row)?
+    } else {
+        drawn_by(rt.alloc(), words, row)?
+    };
     if status == row.status && written.as_slice() == row.output.as_slice() {
         return Ok(true);
     }

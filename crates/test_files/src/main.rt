@@ -4,9 +4,13 @@
 use anyhow::Result;
 use flow_disk::{Disk, DiskFailed, FileDisk};
 use std::fs::{File, Files};
+use std::os::unix::fs::symlink;
 
 /// What no file has a place for.
 const NO_PLACE: u64 = 1 << 63;
+
+/// An empty file that can be read and written, and whose sync fails, as that of its folder does: the name of this process.
+const NEVER_SYNCED: &str = "/proc/self/comm";
 
 /// What is written at two places stands there after a second `open`, and behind it the file ends.
 fn keeps_what_is_written<R: Files<File = File>>(rt: &R) -> Result<bool, DiskFailed> {
@@ -46,6 +50,27 @@ fn tells_what_fails<R: Files<File = File>>(rt: &R) -> Result<bool, DiskFailed> {
     let read = disk.read_at(NO_PLACE, &mut [0u8; 4]);
     let written = disk.write_at(NO_PLACE, b"ab");
     Ok(read.is_err() && written.is_err())
+}
+
+/// A sync that fails is told, and nothing more is done up to the next `open`. The file is opened by a link, whose own folder can be
+/// synced.
+fn stops_after_a_failed_sync<R: Files<File = File>>(rt: &R) -> Result<bool, DiskFailed> {
+    // where an earlier run left the link, it serves
+    let _ = symlink(rt, NEVER_SYNCED, "unsynced.keep");
+    let mut disk = FileDisk::new(rt);
+    disk.open("unsynced.keep")?;
+    let size = disk.len()?;
+    let synced = disk.sync();
+    let read = disk.read_at(0, &mut [0u8; 4]);
+    let again = disk.sync();
+    disk.open("synced.keep")?;
+    disk.sync()?;
+    Ok(size == 0 && synced.is_err() && read.is_err() && again.is_err())
+}
+
+/// The folder of an empty file is synced too: where that fails, the file is not opened.
+fn syncs_the_folder<R: Files<File = File>>(rt: &R) -> bool {
+    FileDisk::new(rt).open(NEVER_SYNCED).is_err()
 }
 
 /// Whether bytes can be written at that place.
@@ -95,5 +120,11 @@ fn main(rt: HostRuntime) -> Result<()> {
         &rt,
         "no part is taken for the whole",
         takes_no_part_for_the_whole(&rt),
-    )
+    )?;
+    tell(
+        &rt,
+        "nothing is done after a failed sync",
+        stops_after_a_failed_sync(&rt),
+    )?;
+    tell(&rt, "the folder is synced", Ok(syncs_the_folder(&rt)))
 }
