@@ -19,7 +19,7 @@ use Rattle.flow_laws.specs.Resolutions.{Resolves}
 use Rattle.flow_laws.proofs.ResolutionsLemmas.{resolves_of, mem-resolutions, choice_free_resolution, goal_trace}
 use Rattle.flow_laws.proofs.FoldingLemmas.{FoldsTo, folds_to, may_stay, is_folded, distinct-folded_leaves}
 use Rattle.flow_laws.proofs.WaysLemmas.{each_pair, leaf_of_event_is, same_event, test_of_event}
-use Rattle.flow_laws.proofs.NamedEvents.{named_leaf}
+use Rattle.flow_fold_laws.proofs.NamedEvents.{named_leaf}
 use Rattle.flow_laws.proofs.TraceLeaves.{leaf_of_trace, leaf_in_trace}
 use Rattle.flow_laws.proofs.OptionsLemmas.{all_of_is}
 use Rattle.flow_fold_laws.specs.Unfolding.{IsFoldedOrdered}
