@@ -13,16 +13,9 @@ fn has_word(words: &[String], wanted: &str) -> bool {
 
 /// The word behind another one.
 fn word_behind<'a>(words: &'a [String], wanted: &str) -> Option<&'a str> {
-    let mut rest = words.iter();
-    while let Some(word) = rest.next() {
-        if word.as_str() == wanted {
-            return match rest.next() {
-                Some(word) => Some(word.as_str()),
-                None => None,
-            };
-        }
-    }
-    None
+    let place = words.iter().position(|word| word.as_str() == wanted)?;
+    let word = words.get(place.saturating_add(1))?;
+    Some(word.as_str())
 }
 
 /// The form that the words ask for.
