@@ -10,7 +10,7 @@ use std::rt::Files;
 use std::sync::Wait;
 use std::sync::atomic::{AtomicBool, Ordering};
 use std::test::Fail;
-use std::thread::join;
+use std::thread::{Threads, join};
 use test_doubles::{CountingChecker, MeetChecker};
 
 /// How often a check looks for the other.
@@ -117,24 +117,42 @@ fn most_threads<R: Files + AllocGlobal + Wait>(rt: &R, is_over: &AtomicBool) -> 
     most
 }
 
+/// The status of an audit of the text by four workers, and how many threads more than before the process has at once then, at most.
+fn threads_begun<R: Files + AllocGlobal + Threads + Wait + Sync>(
+    rt: &R,
+    text: &str,
+) -> Result<(Status, u32), AllocError> {
+    let is_over = AtomicBool::new(false);
+    let before = threads_now(rt);
+    let (told, most) = join(
+        rt,
+        || {
+            let told = ran(rt, "flow audit --workers 4", text, &NoteGate);
+            is_over.store(true, Ordering::SeqCst);
+            told
+        },
+        || most_threads(rt, &is_over),
+    );
+    let (status, _) = told?;
+    Ok((status, most.saturating_sub(before)))
+}
+
+/// How often the threads are looked for: where the machine has much else to do, one look may miss them.
+const LOOKS: u32 = 40;
+
 /// The journals of `audit_traces` are checked by as many threads as are asked for: beside them is the one that looks.
 #[test]
 fn an_audit_has_its_threads(rt: HostRuntime) -> Result<(), Fail> {
     let text = slow_journals(rt.alloc())?;
-    let is_over = AtomicBool::new(false);
-    let before = threads_now(&rt);
-    let (told, most) = join(
-        &rt,
-        || {
-            let told = ran(&rt, "flow audit --workers 4", &text, &NoteGate);
-            is_over.store(true, Ordering::SeqCst);
-            told
-        },
-        || most_threads(&rt, &is_over),
-    );
-    let (status, _) = told?;
-    assert!(rt; status == Status::Fine);
-    let begun = most.saturating_sub(before);
-    assert!(rt; begun == 4 || begun == 5, "{begun} threads");
+    let mut most = 0;
+    for _ in 0..LOOKS {
+        let (status, begun) = threads_begun(&rt, &text)?;
+        assert!(rt; status == Status::Fine);
+        most = most.max(begun);
+        if most >= 4 {
+            break;
+        }
+    }
+    assert!(rt; most == 4 || most == 5, "{most} threads");
     Ok(())
 }
