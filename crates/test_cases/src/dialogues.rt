@@ -109,12 +109,17 @@ fn form_in(words: &[String]) -> Form {
     }
 }
 
-/// The status of the dialogue that a row describes, and what is written.
-pub(crate) fn spoken_by(alloc: Global, words: &[String], row: &Row<'_>) -> Result<(u8, Vec<u8>)> {
-    let path = words.get(2).context("a dialogue without a case")?;
-    let input = str::from_utf8(&row.input).context("no text is read")?;
-    let parts = parts_of(input)?;
-    let mut case = new_case(alloc, path.as_str(), parts)?;
+/// The status of a dialogue whose last reply this is.
+fn status_of(reply: &Reply) -> u8 {
+    if reply.outcome == Outcome::Refused {
+        REFUSED
+    } else {
+        0
+    }
+}
+
+/// The status of the dialogue of these lines, and what is written.
+fn speak(case: &mut MemCase, alloc: Global, lines: &str, form: Form) -> Result<(u8, Vec<u8>)> {
     let mut saying = Saying {
         name: "nobody",
         at: "2026-11-30T09:00:00Z",
@@ -122,21 +127,27 @@ pub(crate) fn spoken_by(alloc: Global, words: &[String], row: &Row<'_>) -> Resul
     };
     let mut written = Vec::new(alloc);
     let mut status = 0;
-    for line in parts.lines.lines() {
+    for line in lines.lines() {
         if let Some(other) = saying.told_by(line) {
             saying = other;
             continue;
         }
-        let reply = saying.say(&mut case, line, form_in(words))?;
-        status = if reply.outcome == Outcome::Refused {
-            REFUSED
-        } else {
-            0
-        };
+        let reply = saying.say(case, line, form)?;
+        status = status_of(&reply);
         push_reply(&mut written, line, &reply)?;
     }
-    drop(case);
     Ok((status, written))
+}
+
+/// The status of the dialogue that a row describes, and what is written.
+pub(crate) fn spoken_by(alloc: Global, words: &[String], row: &Row<'_>) -> Result<(u8, Vec<u8>)> {
+    let path = words.get(2).context("a dialogue without a case")?;
+    let input = str::from_utf8(&row.input).context("no text is read")?;
+    let parts = parts_of(input)?;
+    let mut case = new_case(alloc, path.as_str(), parts)?;
+    let spoken = speak(&mut case, alloc, parts.lines, form_in(words));
+    drop(case);
+    spoken
 }
 
 /// Adds the line and the reply to it.
