@@ -18,7 +18,7 @@ import subprocess
 import sys
 import tempfile
 
-from measuring import TOP
+from measuring import TOP, keep_results
 from model import Drawn, Model, Session, leaves, line_of
 
 SESSIONS = 4
@@ -229,6 +229,7 @@ def main():
                         (kept / name).write_text((folder / name).read_text())
                     print(f"wrong: {fault}: {kept}")
                     return 1
+    keep_results("blocked", ["reason", "leaves judged"], [["in all", sum(tally.values())], *map(list, tally.most_common())])
     print(f"{sum(tally.values())} reasons of {workflows} workflows are as the definitions have it: {dict(tally.most_common())}")
     return 0
 
