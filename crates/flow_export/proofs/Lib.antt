@@ -1,0 +1,3 @@
+pub mod EventLemmas
+pub mod JournalLemmas
+pub mod ReadBackLemmas

@@ -1,0 +1,13 @@
+use Rattle.std.proofs.Common.{◌≡◌, map, ap, ◌∙◌}
+use Rattle.flow_core.specs.Run.{Run}
+use Rattle.flow_workflow.specs.Definition.{Definition}
+use Rattle.flow_export.specs.Rows.{row_at}
+use Rattle.flow_export.proofs.log_row.rows_of.Goals as goal
+
+pub returns : goal.returns
+returns c = record {
+  events = c.in_ok-events.events.items;
+  is_log = c.in_ok-events.ensures.log;
+  rows_are = c.in_ok-rows.ensures
+      ∙ (λ i. map (row_at (c.workflow.ensures i) c.args.case.now c.args.tellers.now) (c.deref.ensures.value i));
+}

@@ -1,0 +1,16 @@
+//! The history of a case as an event log, for spreadsheets, process miners and databases.
+#![tactic(auto)]
+
+mod csv_form;
+mod events;
+mod json_form;
+mod log_event;
+mod log_row;
+mod read_back;
+
+pub use csv_form::{csv_head, csv_lines};
+pub use events::events_of;
+pub use json_form::json_lines;
+pub use log_event::{Lifecycle, LogEvent};
+pub use log_row::{LogRow, Teller, rows_of};
+pub use read_back::law_csv_is_read_back;
