@@ -21,6 +21,8 @@ import tempfile
 import threading
 import time
 
+from measuring import keep_results
+
 TOP = pathlib.Path(__file__).resolve().parent.parent
 PERFORM = TOP / "examples/tools/perform"
 TEXTS = ["incident", "laboratory", "order_desk"]
@@ -122,7 +124,9 @@ def main():
                 it.join()
         again = (folder / "again").read_text().splitlines() if (folder / "again").exists() else []
         faults += [f"performed again: {it}" for it in again]
-        print(f"{options.cases} cases, killed {sum(counts)} of {kills * len(groups)} times, {time.monotonic() - began:.0f} s, faults {len(faults)}")
+        seconds = time.monotonic() - began
+        print(f"{options.cases} cases, killed {sum(counts)} of {kills * len(groups)} times, {seconds:.0f} s, faults {len(faults)}")
+        keep_results("perform", ["cases", "kills", "seconds", "faults"], [[options.cases, sum(counts), round(seconds), len(faults)]])
     for it in faults[:20]:
         print(it)
     return 1 if faults else 0
