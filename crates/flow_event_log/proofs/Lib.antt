@@ -3,3 +3,4 @@ pub mod EntryLemmas
 pub mod GroupLemmas
 pub mod ReachedLemmas
 pub mod RowLemmas
+pub mod SpellingLemmas

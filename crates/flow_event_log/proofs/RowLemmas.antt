@@ -15,6 +15,9 @@ pub record Keeps (old new : List (List ℕ)) : Type 0 where
   pub as_many : length old ≤ length new
   pub names : (k : ℕ) → k < length old → name_at new k ≡ name_at old k
 
+pub itself : (names : List (List ℕ)) → Keeps names names
+itself names = record { as_many = (omega arith); names = λ k below. refl }
+
 pub keeps : (old : List (List ℕ)) (text : List ℕ) (new : List (List ℕ)) → IsNumberedIn old text new → Keeps old new
 keeps old text new numbered = elim numbered [
   | inl same ↦ record {

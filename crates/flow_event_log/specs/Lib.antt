@@ -5,3 +5,4 @@ pub mod Logs
 pub mod Numbers
 pub mod Reached
 pub mod Rows
+pub mod Spelling

@@ -45,7 +45,7 @@ fn case_number(names: &mut Names, last: Option<&Event>, name: &[u8]) -> Result<u
 }
 
 impl EventLog {
-    ghost use Rattle.std.specs.Prelude.{◌≡◌, ◌∷◌, ◌++◌, [], OnOk, IfOk, Some, slice_get};
+    ghost use Rattle.std.specs.Prelude.{◌≡◌, ◌∷◌, ◌++◌, [], OnOk, IfOk, IfSome, IfNone, Some, slice_get};
     ghost use Rattle.flow_event_log.specs.Logs.{cases_in, activities_in, events_in, rows_in};
 
     /// A log of no event.
@@ -87,11 +87,6 @@ impl EventLog {
         self.events.len()
     }
 
-    /// Whether there is no event.
-    pub fn is_empty(&self) -> bool {
-        self.events.is_empty()
-    }
-
     /// The events in the order in which they happened.
     pub fn events(&self) -> &[Event]
         ensures events { result.now ≡ events_in self.now }
@@ -113,6 +108,32 @@ impl EventLog {
             line,
         })?;
         Ok(case)
+    }
+
+    /// Notes one more event where its names are among those that came of late, and gives the number of its case. Else nothing
+    /// changes.
+    pub(crate) fn note_recalled(
+        &mut self,
+        case: &[u8],
+        activity: &[u8],
+        line: u32,
+    ) -> Result<Option<u32>, AllocError>
+        ensures rows { IfOk result (λ known. IfSome known (λ number. rows_in self.new ≡ rows_in self.old ++ (case.now, activity.now) ∷ [])) }
+        ensures case { IfOk result (λ known. IfSome known (λ number. slice_get (cases_in self.new) number ≡ Some case.now)) }
+        ensures unknown { IfOk result (λ known. IfNone known (self.new ≡ self.old)) }
+    {
+        let Some(number) = self.cases.recall(case) else {
+            return Ok(None);
+        };
+        let Some(activity) = self.activities.recall(activity) else {
+            return Ok(None);
+        };
+        self.events.push(Event {
+            case: number,
+            activity,
+            line,
+        })?;
+        Ok(Some(number))
     }
 
     /// Puts the events in this order of their places.

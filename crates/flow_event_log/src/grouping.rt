@@ -41,7 +41,7 @@ pub fn group(alloc: Global, log: &EventLog, events_of: &[u32]) -> Result<Cases, 
     requires { length (activities_in log.now) ≤ length events_of.now }
     ensures { IfOk result (λ cases. AreCases (length (cases_in log.now)) (map (entry_of events_of.now) (events_in log.now)) cases.of_cases.items cases.sequences.items) }
 {
-    let mut tree = Sequences::new(alloc, log.cases().key());
+    let mut tree = Sequences::new(alloc, log.cases().key())?;
     let ends = ends_of(alloc, log.cases().len(), log.events(), events_of, &mut tree)?;
     let cases = numbered_ends(alloc, &tree, &ends)?;
     Ok(cases)

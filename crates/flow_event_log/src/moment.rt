@@ -147,9 +147,12 @@ fn zone_in(front: &mut Front<'_>) -> Option<Option<u64>>
     }
 }
 
-/// The time that a text says: a date, and mostly a time of the day and a zone, as ISO 8601 writes them.
-pub(crate) fn moment_in(text: &[u8]) -> Option<Moment> {
-    let mut front = Front(text);
+/// How many bytes a date has.
+const DATE: usize = 10;
+
+/// The days from the first of the year 0 to the date that a text says.
+fn days_in(date: &[u8]) -> Option<u64> {
+    let mut front = Front(date);
     let year = front.year()?;
     let slashes = front.skip(b'/');
     if !slashes && !front.skip(b'-') {
@@ -160,15 +163,53 @@ pub(crate) fn moment_in(text: &[u8]) -> Option<Moment> {
         return None;
     }
     let day = front.two_digits(1, 31)?;
+    Some(days_to(year, month, day))
+}
+
+/// The time on a day that a text says: nothing, or a time of the day and mostly a zone.
+fn moment_on(days: u64, behind: &[u8]) -> Option<Moment> {
+    let mut front = Front(behind);
     let clock = clock_in(&mut front)?;
     let zone = zone_in(&mut front)?;
     if !front.0.is_empty() {
         return None;
     }
-    let local = days_to(year, month, day) * 86_400_000_000 + clock;
+    let local = days.min(3_999_999) * 86_400_000_000 + clock;
     Some(Moment {
         // a day more than it is, so that no zone leads below 0
         microseconds: local + 172_800_000_000 - zone.unwrap_or(0).min(2880) * 60_000_000,
         zoned: zone.is_some(),
     })
+}
+
+/// Reads times. Mostly one has the date of the one before it, which is not read again.
+#[derive(Clone, Copy)]
+pub(crate) struct Dates {
+    /// The date that came last.
+    last: [u8; DATE],
+    /// The days to it.
+    days: u64,
+}
+
+impl Dates {
+    /// No date came.
+    pub(crate) fn new() -> Dates {
+        Dates {
+            last: [0; DATE],
+            days: 0,
+        }
+    }
+
+    /// The time that a text says: a date, and mostly a time of the day and a zone, as ISO 8601 writes them.
+    pub(crate) fn moment_in(&mut self, text: &[u8]) -> Option<Moment> {
+        if text.len() < DATE {
+            return None;
+        }
+        let (date, behind) = text.split_at(DATE);
+        if date != &self.last[..] {
+            self.days = days_in(date)?;
+            self.last.copy_from_slice(date);
+        }
+        moment_on(self.days, behind)
+    }
 }

@@ -129,7 +129,7 @@ impl Names {
     }
 
     /// The number of a text, if it is the one of its slot that was asked for last.
-    fn recall(&self, text: &[u8]) -> Option<u32>
+    pub(crate) fn recall(&self, text: &[u8]) -> Option<u32>
         ensures { IfSome result (λ number. slice_get self.now number ≡ Some text.now) }
     {
         let number = self.recent.get(slot(text))?.checked_sub(1)?;

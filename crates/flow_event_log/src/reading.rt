@@ -62,26 +62,15 @@ struct Row<'a> {
     time: &'a [u8],
 }
 
-/// The fields of a row that count, or what is wrong with it.
-fn row_in<'a>(record: &'a ByteRecord, columns: &Columns) -> Result<Row<'a>, Flaw> {
-    let (Some(case), Some(activity)) = (record.get(columns.case), record.get(columns.activity))
-    else {
-        return Err(Flaw::TooFewFields);
-    };
+/// The fields of a row that count, if it has them.
+fn row_in<'a>(record: &'a ByteRecord, columns: &Columns) -> Option<Row<'a>> {
+    let case = record.get(columns.case)?;
+    let activity = record.get(columns.activity)?;
     let time = match columns.time {
-        Some(place) => match record.get(place) {
-            Some(time) => time,
-            None => return Err(Flaw::TooFewFields),
-        },
+        Some(place) => record.get(place)?,
         None => case,
     };
-    if let Some(flaw) = flaw_of(case) {
-        return Err(flaw);
-    }
-    if let Some(flaw) = flaw_of(activity) {
-        return Err(flaw);
-    }
-    Ok(Row {
+    Some(Row {
         case,
         activity,
         time,
@@ -146,14 +135,20 @@ impl Reading {
         uncounted: u64,
     ) -> Result<(), LogFault> {
         let line = line_of(record, uncounted);
-        let row = match row_in(record, &self.columns) {
-            Ok(row) => row,
-            Err(flaw) => return self.leave_out(line, flaw),
+        let Some(row) = row_in(record, &self.columns) else {
+            return self.leave_out(line, Flaw::TooFewFields);
         };
         let Ok(number) = u32::try_from(line) else {
             return Err(LogFault::Refused(LogRefusal::TooLong { line }));
         };
-        let case = self.log.note(row.case, row.activity, number)?;
+        let case = match self.log.note_recalled(row.case, row.activity, number)? {
+            Some(case) => case,
+            // a name that came was looked at when it came first
+            None => match flaw_of(row.case).or(flaw_of(row.activity)) {
+                Some(flaw) => return self.leave_out(line, flaw),
+                None => self.log.note(row.case, row.activity, number)?,
+            },
+        };
         if self.columns.time.is_none() {
             return Ok(());
         }

@@ -19,21 +19,30 @@ pub(crate) struct Sequences {
     steps: Vec<Step>,
     /// Where a step is looked for. What is found here is looked at again.
     numbers: HashMap<Step, u32, NamesKey>,
-    /// Of each sequence the one that came of it last; 0 where there is none. It is looked at again too.
-    latest: Vec<u32>,
+    /// Of each slot the sequence in it that was asked for last; 0 where there is none. It is looked at again too.
+    recent: Vec<u32>,
     ghost older: { AreOlder steps.items },
+}
+
+/// How many slots there are for sequences that were asked for of late.
+const SLOTS: usize = 262_144;
+
+/// The slot of a sequence with one event more.
+fn slot(before: u32, event: u32) -> usize {
+    let mixed = (u64::from(before) << 32 | u64::from(event)).wrapping_mul(0x9E37_79B9_7F4A_7C15);
+    (mixed >> 46) as usize
 }
 
 impl Sequences {
     /// The empty sequence alone.
-    pub(crate) fn new(alloc: Global, key: NamesKey) -> Sequences
-        ensures { result.steps.items ≡ [] }
+    pub(crate) fn new(alloc: Global, key: NamesKey) -> Result<Sequences, AllocError>
+        ensures { IfOk result (λ tree. tree.steps.items ≡ []) }
     {
-        Sequences {
+        Ok(Sequences {
             steps: Vec::new(alloc),
             numbers: HashMap::with_hasher(alloc, key),
-            latest: Vec::new(alloc),
-        }
+            recent: Vec::from_elem(alloc, 0, SLOTS)?,
+        })
     }
 
     /// How many there are, with the empty one.
@@ -55,7 +64,7 @@ impl Sequences {
             return Ok(number);
         }
         let number = self.find_or_add(before, event)?;
-        self.keep(before, number);
+        self.keep(before, event, number);
         Ok(number)
     }
 
@@ -87,23 +96,23 @@ impl Sequences {
         }
     }
 
-    /// The number of a sequence with one event more, if it is the one that came last.
+    /// The number of a sequence with one event more, if it is the one of its slot that was asked for last.
     fn recall(&self, before: u32, event: u32) -> Option<u32>
         ensures { IfSome result (λ number. IsStepAt self.now.steps.items number before event) }
     {
-        let number = match self.latest.get(before as usize) {
+        let number = match self.recent.get(slot(before, event)) {
             Some(number) => *number,
             None => return None,
         };
         self.checked(number, before, event)
     }
 
-    /// Keeps that this sequence came last of the one that is an event shorter.
-    fn keep(&mut self, before: u32, number: u32)
+    /// Keeps the number of a sequence that was asked for.
+    fn keep(&mut self, before: u32, event: u32, number: u32)
         ensures { self.new.steps.items ≡ self.old.steps.items }
     {
-        if let Some(latest) = self.latest.get_mut(before as usize) {
-            *latest = number;
+        if let Some(recent) = self.recent.get_mut(slot(before, event)) {
+            *recent = number;
         }
     }
 
@@ -132,7 +141,6 @@ impl Sequences {
             return Err(AllocError);
         };
         let step = Step { before, event };
-        self.latest.push(0)?;
         self.numbers.insert(step, number)?;
         self.steps.push(step)?;
         Ok(number)

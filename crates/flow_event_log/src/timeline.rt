@@ -1,6 +1,6 @@
 ghost use Rattle.std.specs.Prelude.{◌≡◌};
 
-use crate::moment::moment_in;
+use crate::moment::Dates;
 use std::alloc::{AllocError, Global};
 
 /// Why a time is refused.
@@ -25,6 +25,7 @@ pub(crate) struct Timeline {
     of_cases: Vec<u64>,
     zoned: Option<bool>,
     in_order: bool,
+    dates: Dates,
 }
 
 impl Timeline {
@@ -34,12 +35,13 @@ impl Timeline {
             of_cases: Vec::new(alloc),
             zoned: None,
             in_order: true,
+            dates: Dates::new(),
         }
     }
 
     /// Notes the time of the next event, which is of that case.
     pub(crate) fn note(&mut self, case: u32, text: &[u8]) -> Result<(), TimeFault> {
-        let Some(moment) = moment_in(text) else {
+        let Some(moment) = self.dates.moment_in(text) else {
             return Err(TimeFault::Bad);
         };
         if self.zoned.is_some_and(|zoned| zoned != moment.zoned) {
