@@ -1,2 +1,3 @@
 pub mod BeginLemmas
 pub mod PeopleLemmas
+pub mod DueLemmas

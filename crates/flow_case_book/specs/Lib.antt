@@ -1,4 +1,5 @@
 pub mod Begun
 pub mod Texts
 pub mod People
+pub mod Due
 pub mod Held

@@ -1,6 +1,6 @@
 //! A case whose entries and lines are kept before they are told.
 ghost use Rattle.std.specs.Prelude.{◌≡◌, ◌⊎◌, ◌-◌, ◌^◌, ◌<◌, ◌∷◌, ◌++◌, [], ℕ, List, ◌↔◌, ◌+◌, Err, false, true, length, IfOk, OnOk};
-ghost use Rattle.std.specs.Result.{is_err};
+ghost use Rattle.std.specs.Result.{IsErrOf, is_err};
 ghost use Rattle.std.specs.String.{string_bytes};
 ghost use Rattle.hex.specs.Hex.{encode_lower};
 ghost use Rattle.flow_ask.specs.declared.refusal.Refusal.TheVariants as refusal;
@@ -8,23 +8,25 @@ ghost use Rattle.flow_case.specs.CaseRun.{run_of, CaseAnswers};
 ghost use Rattle.flow_keep.specs.Answered.{KeepAnswers, LeavesKept};
 ghost use Rattle.flow_keep.specs.Records.{Keeps};
 ghost use Rattle.flow_trail.specs.Lines.{Said, undone, end_of, Says};
+ghost use Rattle.flow_trail.specs.Due.{Entered, Tells, IsOther, IsMissing};
 ghost use Rattle.flow_case_cli.specs.Held as cli;
 ghost use Rattle.flow_case_cli.specs.Line.{TellsEntry};
 ghost use Rattle.flow_case_cli.specs.Asked.{TellsLine, IsToldFirst};
+ghost use Rattle.flow_case_book.specs.Due.{AreDueOf};
 
+use crate::dues::dues;
 use crate::fresh::case_with;
 use crate::names::Names;
 use crate::opened::KeptTexts;
 use flow_ask::{Answer, Ask, Refusal};
 use flow_case::CaseRun;
-use flow_case_cli::{Asker, Case, step_words};
+use flow_case_cli::{Asker, Case};
 use flow_case_talk::{Book, Form, Reply, Speaker, Told, respond};
 use flow_core::Core;
 use flow_disk::Disk;
-use flow_model::Entry;
 use flow_names::{steps_to_take, tidy_steps, waits_for_step};
 use flow_policy::Policy;
-use flow_trail::TrailLine;
+use flow_trail::{TrailLine, VerifyRefusal};
 use std::alloc::{AllocError, Global};
 
 /// A case with its texts, and its users by name.
@@ -81,30 +83,19 @@ impl<D: Disk, T: Disk> CaseBook<D, T> {
         hex::encode(alloc, &self.case.trail().end().seal)
     }
 
-    /// The place of the first entry, from 0, that its line does not tell.
-    pub fn fault(&self) -> Option<usize> {
-        for (place, entry) in self.case.run().core().history().iter().enumerate() {
-            if !self.is_told(place, *entry) {
-                return Some(place);
-            }
-        }
-        None
-    }
-
-    /// Whether the line of the entry tells it, and by whom it was made.
-    fn is_told(&self, place: usize, entry: Entry) -> bool {
-        let Some(line) = self.lines.get(place) else {
-            return false;
-        };
-        let Some(TrailLine::Told(telling)) = self.case.trail().lines().get(*line) else {
-            return false;
-        };
-        match step_words(self.alloc, entry.step) {
-            Ok(step) => {
-                let is_same = step.as_str() == telling.entry.as_str();
-                is_same && self.names.name_of(entry.by) == telling.by.as_str()
-            }
-            Err(AllocError) => false,
+    /// Whether the lines of the trail tell just the entries of the history, in order: by whom each was made, its step, and its task.
+    pub fn verify(&self) -> Result<(), VerifyRefusal>
+        ensures whole { OnOk result ((due : List Entered) × AreDueOf (names_in self.now) (run_of (case_of self.now)) due
+            × Tells (start_of self.now) (said_in self.now) due) }
+        ensures no_bad_line { (line : ℕ) → ¬ (IsErrOf result (VerifyRefusal.BadLine line)) }
+        ensures other { (line : ℕ) → IsErrOf result (VerifyRefusal.Other line) →
+            (due : List Entered) × AreDueOf (names_in self.now) (run_of (case_of self.now)) due × IsOther (said_in self.now) due line }
+        ensures missing { (entry : ℕ) → IsErrOf result (VerifyRefusal.Missing entry) →
+            (due : List Entered) × AreDueOf (names_in self.now) (run_of (case_of self.now)) due × IsMissing (said_in self.now) due entry }
+    {
+        match dues(self.alloc, self.case.run().core(), &self.names) {
+            Ok(dues) => self.case.trail().check(&dues),
+            Err(AllocError) => Err(VerifyRefusal::NoMemory),
         }
     }
 

@@ -2,6 +2,7 @@
 #![tactic(auto)]
 
 mod book;
+mod dues;
 mod fresh;
 mod names;
 mod opened;
@@ -9,6 +10,7 @@ mod stop;
 
 pub use book::CaseBook;
 pub use flow_case_cli::Asker;
+pub use flow_trail::VerifyRefusal;
 pub use fresh::{CaseTexts, check_texts};
 pub use opened::{KeptTexts, open_case};
 pub use stop::CaseStop;

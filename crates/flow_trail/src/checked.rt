@@ -1,5 +1,5 @@
 //! Whether a trail is whole, and tells just the entries of a history.
-ghost use Rattle.std.specs.Prelude.{◌≡◌, ◌+◌, ℕ, List, map, length, IfOk};
+ghost use Rattle.std.specs.Prelude.{◌≡◌, ◌+◌, ℕ, List, map, length, IfOk, OnOk};
 ghost use Rattle.std.specs.Result.{IsErrOf};
 ghost use Rattle.flow_trail.specs.Lines.{Said, end_of, trail_text, Says};
 ghost use Rattle.flow_trail.specs.Read.{IsBadLine};
@@ -11,6 +11,8 @@ use crate::line::TrailEnd;
 use crate::read::read_trail;
 use crate::refusal::VerifyRefusal;
 use crate::seal::first_seal;
+use crate::trail::Trail;
+use flow_disk::Disk;
 use std::alloc::Global;
 
 /// A trail that is whole.
@@ -52,5 +54,20 @@ pub fn verify(
             behind: trail.len() - read.place,
         }),
         Err(refusal) => Err(refusal),
+    }
+}
+
+impl<D: Disk> Trail<D> {
+    ghost use Rattle.flow_trail.specs.Held.{start_of, said_in};
+
+    /// Whether the lines tell just the entries that are due, in order, or these and one that has not come, in the last line.
+    pub fn check(&self, due: &[Due]) -> Result<(), VerifyRefusal>
+        ensures whole { OnOk result (Tells (start_of self.now) (said_in self.now) (map entered_of due.now)) }
+        ensures no_bad_line { (line : ℕ) → ¬ (IsErrOf result (VerifyRefusal.BadLine line)) }
+        ensures no_memory { ¬ (IsErrOf result VerifyRefusal.NoMemory) }
+        ensures other { (line : ℕ) → IsErrOf result (VerifyRefusal.Other line) → IsOther (said_in self.now) (map entered_of due.now) line }
+        ensures missing { (entry : ℕ) → IsErrOf result (VerifyRefusal.Missing entry) → IsMissing (said_in self.now) (map entered_of due.now) entry }
+    {
+        compare(&self.lines, due)
     }
 }

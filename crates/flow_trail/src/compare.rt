@@ -14,6 +14,7 @@ use crate::refusal::VerifyRefusal;
 pub(crate) fn compare(lines: &[TrailLine], due: &[Due]) -> Result<(), VerifyRefusal>
     ensures ok { OnOk result ((e : TrailEnd) → Tells e (map said_of lines.now) (map entered_of due.now)) }
     ensures bad { (line : ℕ) → ¬ (IsErrOf result (VerifyRefusal.BadLine line)) }
+    ensures no_memory { ¬ (IsErrOf result VerifyRefusal.NoMemory) }
     ensures other { (line : ℕ) → IsErrOf result (VerifyRefusal.Other line) → IsOther (map said_of lines.now) (map entered_of due.now) line }
     ensures missing { (entry : ℕ) → IsErrOf result (VerifyRefusal.Missing entry) → IsMissing (map said_of lines.now) (map entered_of due.now) entry }
 {

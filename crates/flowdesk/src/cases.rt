@@ -5,7 +5,7 @@ use crate::case_faults::{tell_folder, tell_stop};
 use crate::case_words::line_in;
 use crate::{NO_MEMORY, write};
 use clap::ArgMatches;
-use flow_case_book::{Asker, CaseBook, KeptTexts, open_case};
+use flow_case_book::{Asker, CaseBook, KeptTexts, VerifyRefusal, open_case};
 use flow_case_files::{CaseDisks, open_disks, read_case};
 use flow_case_talk::{Form, Outcome, Reply, begin_line};
 use flow_disk::{Disk, FileDisk};
@@ -240,17 +240,19 @@ fn say_whole<'a, R: Files<File = File> + AllocGlobal + Print + Eprint>(
     rt: &R,
     book: &FileCase<'a, R>,
 ) -> u8 {
-    let fault = book.fault();
-    let text = match fault {
-        Some(place) => format!(in rt.alloc();
-            "entry {place} of the history, from 0, has another line on the trail\n"
-        ),
-        None => whole_line(rt, book),
-    };
+    match book.verify() {
+        Ok(()) => say_text(rt, whole_line(rt, book), 0),
+        Err(VerifyRefusal::NoMemory) => NO_MEMORY,
+        Err(refusal) => say_text(rt, format!(in rt.alloc(); "{refusal}\n"), REFUSED),
+    }
+}
+
+/// Writes the text, and gives the status where it is written.
+fn say_text(rt: &(impl Print + Eprint), text: Result<String, AllocError>, status: u8) -> u8 {
     match text {
         Ok(text) => match write(rt, text.as_bytes()) {
-            0 if fault.is_some() => REFUSED,
-            status => status,
+            0 => status,
+            fault => fault,
         },
         Err(AllocError) => NO_MEMORY,
     }
