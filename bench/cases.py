@@ -1,12 +1,13 @@
 #!/usr/bin/env python3
 """Cases as folders, on real files: dialogues that are killed, bytes that are changed, commands at once, and what a command costs.
 
-Usage: bench/cases.py [PART ..] [--kills N] [--programs FOLDER]     PART: killed, changed, at_once, costs; without one all
+Usage: bench/cases.py [PART ..] [--kills N] [--programs FOLDER]     PART: killed, changed, ended, at_once, costs; without one all
 
 killed   N dialogues (2,000) over the incident and the laboratory, each killed (by SIGKILL) at a random moment: of the entries that were
          shown none is lost and none comes twice, there is at most one line's more, and `verify` says that the case is whole
 changed  each byte of the trail, the entries and the texts of a case is changed in turn, in two ways: `verify` refuses the case, or says
-         another seal; but for bytes behind the last record, which mean nothing
+         another seal, or says that bytes behind the last record mean nothing
+ended    a dialogue whose last line is refused ends with 0; one command that is refused ends with 1
 at_once  ten commands at once on one case: all are answered, one after another
 costs    the processor time of a command on a case of the order desk with 60 entries; and of a step in a dialogue beside a step of
          flowkeep
@@ -31,7 +32,7 @@ from measuring import TOP, keep_results
 EXAMPLES = TOP / "examples"
 # What one line of a dialogue makes: tests and updates, and then one entry.
 OF_A_LINE = re.compile(r"(\d+: did \d+\n)*(\d+: (took|done|failed|rewound|committed).*\n)?$")
-RECORD = 16
+MEANS_NOTHING = "bytes at its end that mean nothing"
 
 
 def ran(*words, source=None):
@@ -151,7 +152,6 @@ def changed(desk):
     case = changed_case(desk)
     whole = desk.call("verify", case).stdout
     held = {file.name: file.read_bytes() for file in case.iterdir()}
-    records = len(held["run.keep"]) // RECORD * RECORD
     tried, resealed, behind = 0, 0, 0
     for name, right in held.items():
         for place in range(len(right)):
@@ -159,17 +159,30 @@ def changed(desk):
                 (case / name).write_bytes(right[:place] + bytes([other]) + right[place + 1:])
                 told = desk.call("verify", case)
                 tried += 1
-                if told.returncode == 0 and told.stdout != whole:
-                    resealed += 1
-                elif told.returncode == 0 and name == "run.keep" and place >= records:
+                if told.returncode == 0 and MEANS_NOTHING in told.stdout:
                     behind += 1
-                elif told.returncode == 0 and not (name == "trail.jsonl" and place == len(right) - 1):
+                elif told.returncode == 0 and told.stdout != whole:
+                    resealed += 1
+                elif told.returncode == 0:
                     desk.wrong("changed", name, place, right[place], other, told.stdout)
                 for kept, data in held.items():
                     (case / kept).write_bytes(data)
     print(f"changed {tried} bytes: another seal {resealed}, behind the records {behind}")
     shutil.rmtree(case)
     return [("changed bytes", tried, resealed)]
+
+
+def ended(desk):
+    """The status of a dialogue is that of its end; that of a command is that of its reply."""
+    text = desk.folder / "ended.flow"
+    text.write_text("event a; goal a;\n")
+    case = desk.new("ended", text)
+    talk = ran(desk.program, "open", case, "--as", "ann", source="take a\ntake a\n")
+    call = desk.call("take", case, "a", "--as", "ann")
+    if talk.returncode != 0 or call.returncode != 1 or "refused" not in talk.stdout:
+        desk.wrong("ended", talk, call)
+    print(f"a dialogue ended with {talk.returncode}, a command with {call.returncode}")
+    return [("a refused line ends a dialogue with", 1, talk.returncode)]
 
 
 def at_once(desk):
@@ -250,7 +263,7 @@ def main():
     with tempfile.TemporaryDirectory() as folder:
         desk, chance = Desk(program, folder), random.Random(20261130)
         parts = {"killed": lambda: killed(desk, given.kills, chance), "changed": lambda: changed(desk), "at_once": lambda: at_once(desk),
-                 "costs": lambda: command_costs(desk, chance) + step_costs(desk, keep)}
+                 "ended": lambda: ended(desk), "costs": lambda: command_costs(desk, chance) + step_costs(desk, keep)}
         for part in given.parts or parts:
             rows += parts[part]()
     if not given.parts:

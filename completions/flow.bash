@@ -89,7 +89,7 @@ _flowdesk() {
         local cases="new take done fail do rewind commit tidy todo why history undone facts report verify open"
         mapfile -t COMPREPLY < <(compgen -W "draw explain lint log $cases --help --version" -- "$word")
     elif [[ $word == -* && ${COMP_WORDS[1]} == new ]]; then
-        mapfile -t COMPREPLY < <(compgen -W "$(_flow_unused --workflow --policy)" -- "$word")
+        mapfile -t COMPREPLY < <(compgen -W "$(_flow_unused --workflow --policy --tidy)" -- "$word")
     elif [[ $word == -* && ${COMP_WORDS[1]} != draw && ${COMP_WORDS[1]} != explain && ${COMP_WORDS[1]} != lint && ${COMP_WORDS[1]} != log ]]; then
         mapfile -t COMPREPLY < <(compgen -W "$(_flow_unused --as --note --at --wait --json --quiet --ok)" -- "$word")
     elif [[ $word == -* && ${COMP_WORDS[1]} == explain ]]; then

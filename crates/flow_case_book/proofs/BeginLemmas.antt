@@ -1,5 +1,5 @@
 -- A case begins by its texts, and its kept run begins the same.
-use Rattle.std.proofs.Common.{◌≡◌, ℕ, List, [], ◌++◌, Option, None, Some, Result, Ok, Err, IfOk, refl, sym, ap, subst, ◌∙◌}
+use Rattle.std.proofs.Common.{◌≡◌, ◌⊎◌, inl, inr, ℕ, List, [], ◌++◌, Option, None, Some, Result, Ok, Err, IfOk, refl, sym, ap, subst, ◌∙◌}
 use Rattle.flow_model.specs.Lists.{AreDistinct}
 use Rattle.flow_model.specs.declared.history.Entry.{Entry}
 use Rattle.flow_form.specs.Script.{Said}
@@ -14,6 +14,8 @@ use Rattle.flow_case.specs.CaseRun.{run_of, case_with}
 use Rattle.flow_case.specs.CasePolicy.{CaseSaid, IsCasePolicyOf}
 use Rattle.flow_case_book.specs.declared.fresh.TheConstants.{MOST_STEPS}
 use Rattle.flow_case_book.specs.Begun.{IsBegunRun, IsBegun}
+use Rattle.flow_case_book.specs.declared.stop.CaseStop.{CaseStop}
+use Rattle.flow_case_book.specs.Stops.{IsUngoverned, IsUnbegunBy}
 
 -- a run that is started
 pub begun_run : (s : Said) (w : Definition) (r : Run) → IsExpanded s w → r ≡ record { definition = w; limit = MOST_STEPS; history = [] } → IsBegunRun s r
@@ -31,6 +33,10 @@ same_events s r b = sym (ap (λ (w : Definition). w.events) b.workflow.is)
 pub governed : (s : Said) (text : List ℕ) (r : Run) (p : CaseSaid) (c : CaseRun) → IsBegunRun s r → IsCasePolicyOf text s r.definition.events p →
     c ≡ UnderPolicy (record { desk = record { run = r; assigned = p.assigned }; rules = p.rules }) → IsBegun s (Some text) c
 governed s text r p c b policy is = subst (IsBegun s (Some text)) (sym is) (b, policy)
+
+-- the policy says nothing to that run
+pub ungoverned : (s : Said) (text : List ℕ) (r : Run) (stop : CaseStop) → IsBegunRun s r → IsUngoverned text s r.definition.events stop → IsUnbegunBy s (Some text) stop
+ungoverned s text r stop b u = inr (text, refl, (r.definition, b.workflow, u))
 
 -- the run of a case that begins
 pub run_begun : (s : Said) (policy : Option (List ℕ)) (c : CaseRun) → IsBegun s policy c → IsBegunRun s (run_of c)

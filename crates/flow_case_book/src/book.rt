@@ -7,7 +7,7 @@ ghost use Rattle.flow_ask.specs.declared.refusal.Refusal.TheVariants as refusal;
 ghost use Rattle.flow_case.specs.CaseRun.{run_of, CaseAnswers};
 ghost use Rattle.flow_keep.specs.Answered.{KeepAnswers, LeavesKept};
 ghost use Rattle.flow_keep.specs.Records.{Keeps};
-ghost use Rattle.flow_trail.specs.Lines.{Said, undone, end_of, Says};
+ghost use Rattle.flow_trail.specs.Lines.{Said, undone, end_of, trail_text, Says};
 ghost use Rattle.flow_trail.specs.Due.{Entered, Tells, IsOther, IsMissing};
 ghost use Rattle.flow_case_cli.specs.Held as cli;
 ghost use Rattle.flow_case_cli.specs.Line.{TellsEntry};
@@ -83,6 +83,13 @@ impl<D: Disk, T: Disk> CaseBook<D, T> {
         hex::encode(alloc, &self.case.trail().end().seal)
     }
 
+    /// How many bytes the lines of the trail take.
+    pub fn trail_bytes(&self) -> u64
+        ensures { result ≡ length (trail_text (start_of self.now) (said_in self.now)) }
+    {
+        self.case.trail().bytes()
+    }
+
     /// Whether the lines of the trail tell just the entries of the history, in order: by whom each was made, its step, and its task.
     pub fn verify(&self) -> Result<(), VerifyRefusal>
         ensures whole { OnOk result ((due : List Entered) × AreDueOf (names_in self.now) (run_of (case_of self.now)) due
@@ -124,6 +131,10 @@ impl<D: Disk, T: Disk> Book for CaseBook<D, T> {
         self.case.run().core()
     }
 
+    fn workflow_text(&self) -> &[u8] {
+        self.texts.lent().workflow
+    }
+
     fn policy_text(&self) -> Option<&[u8]> {
         self.texts.lent().policy
     }
@@ -148,6 +159,17 @@ impl<D: Disk, T: Disk> Book for CaseBook<D, T> {
             CaseRun::Free(_) => false,
             CaseRun::UnderPolicy(ruled) => ruled.rules().is_final(event),
         }
+    }
+
+    fn may_step_back(&self, user: u32) -> bool {
+        match self.case.run() {
+            CaseRun::Free(_) => true,
+            CaseRun::UnderPolicy(ruled) => ruled.rules().may_step_back(user),
+        }
+    }
+
+    fn is_tidied(&self) -> bool {
+        self.texts.tidied
     }
 
     fn told(&self, place: usize) -> Option<Told<'_>> {

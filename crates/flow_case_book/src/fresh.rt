@@ -1,5 +1,5 @@
 //! The run of a case as it begins, made of its texts.
-ghost use Rattle.std.specs.Prelude.{◌≡◌, ◌≤◌, [], ◌∷◌, ◌++◌, ℕ, List, length, IfOk, OnOk};
+ghost use Rattle.std.specs.Prelude.{◌≡◌, ◌≤◌, [], ◌∷◌, ◌++◌, ℕ, List, length, IfOk, IfErr, OnOk};
 ghost use Rattle.std.specs.Option.{option_map};
 ghost use Rattle.flow_form.specs.Script.{Said, said};
 ghost use Rattle.flow_form.specs.Names.{IsClosed};
@@ -12,6 +12,7 @@ ghost use Rattle.flow_case.specs.declared.case_run.CaseRun.{CaseRun as Case};
 ghost use Rattle.flow_case.specs.CasePolicy.{IsCasePolicyOf};
 ghost use Rattle.flow_case.specs.CaseRun.{case_with as run_with};
 ghost use Rattle.flow_case_book.specs.Begun.{IsBegunRun, IsBegun, IsCaseOf};
+ghost use Rattle.flow_case_book.specs.Stops.{IsUnread, IsUnbegun, IsUngoverned, IsUnbegunBy, IsNoCaseOf};
 
 use crate::stop::CaseStop;
 use flow_case::{CasePolicy, CaseRun, Users, case_policy_of};
@@ -38,6 +39,7 @@ pub(crate) const MOST_STEPS: u32 = 65_536;
 fn script_of(alloc: Global, text: &[u8]) -> Result<Script, CaseStop>
     ensures says { IfOk result (λ script. Says text.now (said script)) }
     ensures closed { IfOk result (λ script. IsClosed (said script)) }
+    ensures refused { IfErr result (IsUnread text.now) }
 {
     if text.len() > GREATEST_INPUT {
         return Err(CaseStop::Workflow(Stop::Refused(Refused::TooLong)));
@@ -55,10 +57,11 @@ fn policy_of(
     script: &Script,
     workflow: &Workflow,
 ) -> Result<CasePolicy, CaseStop>
-    ensures { IfOk result (λ p. IsCasePolicyOf text.now (said script.now) workflow.now.events p) }
+    ensures ok { IfOk result (λ p. IsCasePolicyOf text.now (said script.now) workflow.now.events p) }
+    ensures refused { IfErr result (IsUngoverned text.now (said script.now) workflow.now.events) }
 {
     if text.len() > GREATEST_INPUT {
-        return Err(CaseStop::Workflow(Stop::Refused(Refused::TooLong)));
+        return Err(CaseStop::LongPolicy);
     }
     Ok(case_policy_of(alloc, text, script, workflow)?)
 }
@@ -68,6 +71,7 @@ pub(crate) fn prepared(alloc: Global, script: &Script) -> Result<Prepared, CaseS
     requires { IsClosed (said script.now) }
     ensures expanded { IfOk result (λ p. IsExpanded (said script.now) p.workflow) }
     ensures compiled { IfOk result (λ p. IsCompiled (schema_of p.workflow) p.compiled) }
+    ensures refused { IfErr result (IsUnbegun (said script.now)) }
 {
     Ok(prepare(alloc, script)?)
 }
@@ -75,7 +79,8 @@ pub(crate) fn prepared(alloc: Global, script: &Script) -> Result<Prepared, CaseS
 /// The run of the script's workflow, with no entry.
 fn begun_run(alloc: Global, script: &Script) -> Result<Core, CaseStop>
     requires { IsClosed (said script.now) }
-    ensures { IfOk result (λ core. IsBegunRun (said script.now) core) }
+    ensures ok { IfOk result (λ core. IsBegunRun (said script.now) core) }
+    ensures refused { IfErr result (IsUnbegun (said script.now)) }
 {
     let Prepared { workflow, compiled } = prepared(alloc, script)?;
     Ok(Core::start(alloc, workflow, compiled, MOST_STEPS)?)
@@ -89,7 +94,8 @@ fn governed(
     core: Core,
 ) -> Result<(CaseRun, Option<Users>), CaseStop>
     requires { IsBegunRun (said script.now) core }
-    ensures { IfOk result (λ case. IsBegun (said script.now) (Some text.now) case.0) }
+    ensures ok { IfOk result (λ case. IsBegun (said script.now) (Some text.now) case.0) }
+    ensures refused { IfErr result (IsUnbegunBy (said script.now) (Some text.now)) }
 {
     match policy_of(alloc, text, script, core.workflow()) {
         Ok(policy) => {
@@ -110,7 +116,8 @@ fn case_begun(
     policy: Option<&[u8]>,
 ) -> Result<(CaseRun, Option<Users>), CaseStop>
     requires { IsClosed (said script.now) }
-    ensures { IfOk result (λ case. IsBegun (said script.now) (option_map bytes_now policy.entry) case.0) }
+    ensures ok { IfOk result (λ case. IsBegun (said script.now) (option_map bytes_now policy.entry) case.0) }
+    ensures refused { IfErr result (IsUnbegunBy (said script.now) (option_map bytes_now policy.entry)) }
 {
     let core = begun_run(alloc, script)?;
     match policy {
@@ -134,6 +141,7 @@ pub(crate) fn begin(alloc: Global, texts: CaseTexts<'_>) -> Result<Begun, CaseSt
     ensures says { IfOk result (λ b. Says texts.entry.workflow.now (said b.script)) }
     ensures closed { IfOk result (λ b. IsClosed (said b.script)) }
     ensures begun { IfOk result (λ b. IsBegun (said b.script) (option_map bytes_now texts.entry.policy) b.run) }
+    ensures refused { IfErr result (IsNoCaseOf texts.entry.workflow.now (option_map bytes_now texts.entry.policy)) }
 {
     let script = script_of(alloc, texts.workflow)?;
     match case_begun(alloc, &script, texts.policy) {
@@ -169,9 +177,14 @@ pub(crate) fn case_with(
 
 /// Whether a case can be made of the texts.
 pub fn check_texts(alloc: Global, texts: CaseTexts<'_>) -> Result<(), CaseStop>
-    ensures { OnOk result ((begun : Case) × IsCaseOf texts.entry.workflow.now (option_map bytes_now texts.entry.policy) begun) }
+    ensures ok { OnOk result ((begun : Case) × IsCaseOf texts.entry.workflow.now (option_map bytes_now texts.entry.policy) begun) }
+    ensures refused { IfErr result (IsNoCaseOf texts.entry.workflow.now (option_map bytes_now texts.entry.policy)) }
 {
-    let case = case_with(alloc, texts, &[])?;
-    drop(case);
-    Ok(())
+    match begin(alloc, texts) {
+        Ok(begun) => {
+            drop(begun);
+            Ok(())
+        }
+        Err(stop) => Err(stop),
+    }
 }

@@ -170,21 +170,14 @@ fn take_up<D: Disk + Drop, T: Disk + Drop>(
     }
 }
 
-/// The bytes of the policy; none where there is none.
-fn policy_bytes<'a>(texts: CaseTexts<'a>) -> &'a [u8]
-    ensures { result.now ≡ unwrap_or (option_map bytes_now texts.entry.policy) [] }
-{
-    match texts.policy {
-        Some(policy) => policy,
-        None => b"",
-    }
-}
-
 /// Where the trail of a case of these texts begins.
 fn start_of(texts: CaseTexts<'_>) -> TrailEnd
     ensures { result ≡ first_end texts.entry.workflow.now (unwrap_or (option_map bytes_now texts.entry.policy) []) }
 {
-    TrailEnd::start(first_seal(texts.workflow, policy_bytes(texts)))
+    match texts.policy {
+        Some(policy) => TrailEnd::start(first_seal(texts.workflow, policy)),
+        None => TrailEnd::start(first_seal(texts.workflow, &[])),
+    }
 }
 
 /// The texts of a case that is kept.
@@ -195,6 +188,8 @@ pub struct KeptTexts {
     pub workflow: Vec<u8>,
     /// None where the case has no duties.
     pub policy: Option<Vec<u8>>,
+    /// Whether each `done` is followed by the updates that close off no choice.
+    pub tidied: bool,
 }
 
 impl KeptTexts {

@@ -1,4 +1,5 @@
 ghost use Rattle.std.specs.Prelude.{◌≡◌};
+ghost use Rattle.flow_case_book.specs.declared.stop.CaseStop.TheVariants.{Workflow, Policy, NoMemory};
 
 use flow_case::CasePolicyRefusal;
 use flow_front::Stop;
@@ -13,6 +14,8 @@ pub enum CaseStop {
     Workflow(Stop),
     /// The policy is refused.
     Policy(CasePolicyRefusal),
+    /// The policy has more bytes than a text may have.
+    LongPolicy,
     /// The entry of that number, from 0, is of no run of the workflow, or duties or rules forbid it.
     Foreign(usize),
     /// The trail is refused.
@@ -23,18 +26,24 @@ pub enum CaseStop {
 }
 
 impl From<AllocError> for CaseStop {
+    ghost from_gives = { λ _ stop. stop ≡ NoMemory };
+
     fn from(_error: AllocError) -> CaseStop {
         CaseStop::NoMemory
     }
 }
 
 impl From<Stop> for CaseStop {
+    ghost from_gives = { λ why stop. stop ≡ Workflow why };
+
     fn from(stop: Stop) -> CaseStop {
         CaseStop::Workflow(stop)
     }
 }
 
 impl From<CasePolicyRefusal> for CaseStop {
+    ghost from_gives = { λ why stop. stop ≡ Policy why };
+
     fn from(refusal: CasePolicyRefusal) -> CaseStop {
         CaseStop::Policy(refusal)
     }

@@ -1,4 +1,7 @@
-ghost use Rattle.std.specs.Prelude.{◌<◌, ◌≤◌};
+ghost use Rattle.std.specs.Prelude.{◌≡◌, ◌<◌, ◌≤◌, IfOk, IfSome, drop};
+ghost use Rattle.std.specs.Result.{IsErrOf};
+ghost use Rattle.flow_case_files.specs.Behind.{behind_in};
+ghost use Rattle.flow_case_files.specs.declared.folder.FolderFault.TheVariants.{Exists, InUse, NoMemory, System};
 
 use std::alloc::{AllocError, Global};
 use std::fs::{self, File, Files, OpenFile};
@@ -10,11 +13,14 @@ pub(crate) const WORKFLOW: &str = "workflow.flow";
 /// Who may do what. A case without it has no duties.
 pub(crate) const POLICY: &str = "policy";
 
+/// It is there where each `done` is followed by the updates that close off no choice. It is empty.
+pub(crate) const TIDY: &str = "tidy";
+
 /// The entries of the history.
-pub(crate) const ENTRIES: &str = "run.keep";
+pub const ENTRIES: &str = "run.keep";
 
 /// Who made each entry, and when.
-pub(crate) const TRAIL: &str = "trail.jsonl";
+pub const TRAIL: &str = "trail.jsonl";
 
 /// The greatest length of a text that is read, in bytes. One byte more is read, so that a longer text is told as such.
 pub const GREATEST_TEXT: usize = 1_048_576;
@@ -35,12 +41,16 @@ pub enum FolderFault {
 }
 
 impl From<io::Error> for FolderFault {
+    ghost from_gives = { λ error fault. fault ≡ System error };
+
     fn from(error: io::Error) -> FolderFault {
         FolderFault::System(error)
     }
 }
 
 impl From<AllocError> for FolderFault {
+    ghost from_gives = { λ _ fault. fault ≡ NoMemory };
+
     fn from(_: AllocError) -> FolderFault {
         FolderFault::NoMemory
     }
@@ -51,6 +61,8 @@ impl From<AllocError> for FolderFault {
 pub struct CaseTexts {
     pub workflow: Vec<u8>,
     pub policy: Option<Vec<u8>>,
+    /// Whether each `done` is followed by the updates that close off no choice.
+    pub tidied: bool,
 }
 
 /// The path of a file in the folder.
@@ -79,7 +91,10 @@ fn read_text<R: Files<File = File> + AllocGlobal>(rt: &R, path: &str) -> io::Res
 pub fn read_case<R: Files<File = File> + AllocGlobal>(
     rt: &R,
     folder: &str,
-) -> Result<CaseTexts, FolderFault> {
+) -> Result<CaseTexts, FolderFault>
+    ensures no_name { ¬ (IsErrOf result Exists) }
+    ensures no_lock { ¬ (IsErrOf result InUse) }
+{
     for name in [WORKFLOW, ENTRIES, TRAIL] {
         if !is_file(rt, &path_in(rt.alloc(), folder, name)?) {
             return Err(FolderFault::NoCase(name));
@@ -92,5 +107,54 @@ pub fn read_case<R: Files<File = File> + AllocGlobal>(
     } else {
         None
     };
-    Ok(CaseTexts { workflow, policy })
+    let tidied = is_file(rt, &path_in(rt.alloc(), folder, TIDY)?);
+    Ok(CaseTexts {
+        workflow,
+        policy,
+        tidied,
+    })
+}
+
+/// How many bytes these are, but for a lone one that ends what is before them.
+fn count_behind(bytes: &[u8], end: u8) -> usize
+    ensures { result ≡ behind_in end bytes.now }
+{
+    match bytes {
+        [last] if *last == end => 0,
+        _ => bytes.len(),
+    }
+}
+
+/// How many bytes stand behind the first ones, of which there are so many, but for a lone one that ends these.
+fn count_past(bytes: &[u8], meant: usize, end: u8) -> usize
+    ensures { result ≡ behind_in end (drop meant bytes.now) }
+{
+    if meant >= bytes.len() {
+        0
+    } else {
+        count_behind(&bytes[meant..], end)
+    }
+}
+
+/// All that is read.
+fn read_all<R: Read + Drop>(alloc: Global, file: R) -> io::Result<Vec<u8>>
+    ensures { IfOk result (λ bytes. IfSome (R.remaining file) (λ all. bytes.items ≡ all)) }
+{
+    let mut file = file;
+    let mut bytes = Vec::new(alloc);
+    let _ = file.read_to_end(&mut bytes)?;
+    Ok(bytes)
+}
+
+/// How many bytes a file has that mean nothing: those behind its first ones, of which there are so many, but for a lone byte that ends
+/// these.
+pub fn bytes_behind<R: Read + Drop>(
+    alloc: Global,
+    file: R,
+    meant: usize,
+    end: u8,
+) -> io::Result<usize>
+    ensures { IfOk result (λ count. IfSome (R.remaining file) (λ all. count ≡ behind_in end (drop meant all))) }
+{
+    Ok(count_past(&read_all(alloc, file)?, meant, end))
 }

@@ -5,6 +5,6 @@ mod folder;
 mod locked;
 mod made;
 
-pub use folder::{CaseTexts, FolderFault, GREATEST_TEXT, read_case};
+pub use folder::{CaseTexts, ENTRIES, FolderFault, GREATEST_TEXT, TRAIL, bytes_behind, read_case};
 pub use locked::{CaseDisks, open_disks};
 pub use made::make_case;

@@ -1,4 +1,8 @@
-use crate::folder::{ENTRIES, FolderFault, POLICY, TRAIL, WORKFLOW, path_in};
+ghost use Rattle.std.specs.Prelude.{◌≡◌, ℕ, List};
+ghost use Rattle.std.specs.Result.{IsErrOf};
+ghost use Rattle.flow_case_files.specs.declared.folder.FolderFault.TheVariants.{InUse};
+
+use crate::folder::{ENTRIES, FolderFault, POLICY, TIDY, TRAIL, WORKFLOW, path_in};
 use std::fs::{self, File, Files, OpenFile};
 use std::io::{self, ErrorKind, Write};
 use std::path::Path;
@@ -29,10 +33,16 @@ fn make_files<R: Files<File = File> + AllocGlobal>(
     folder: &str,
     workflow: &[u8],
     policy: Option<&[u8]>,
-) -> Result<(), FolderFault> {
+    tidied: bool,
+) -> Result<(), FolderFault>
+    ensures no_lock { ¬ (IsErrOf result InUse) }
+{
     make_file(rt, &path_in(rt.alloc(), folder, WORKFLOW)?, workflow)?;
     if let Some(policy) = policy {
         make_file(rt, &path_in(rt.alloc(), folder, POLICY)?, policy)?;
+    }
+    if tidied {
+        make_file(rt, &path_in(rt.alloc(), folder, TIDY)?, b"")?;
     }
     make_file(rt, &path_in(rt.alloc(), folder, ENTRIES)?, b"")?;
     make_file(rt, &path_in(rt.alloc(), folder, TRAIL)?, b"")?;
@@ -40,13 +50,17 @@ fn make_files<R: Files<File = File> + AllocGlobal>(
 }
 
 /// Makes the folder of a case that has no entry yet. It is made under the name with `.new` behind it and then renamed, so it is there
-/// whole or not at all. Where something of either name is there, nothing is done.
+/// whole or not at all. Where something of either name is there, nothing is done. In a case that is tidied each `done` is followed by
+/// the updates that close off no choice.
 pub fn make_case<R: Files<File = File> + AllocGlobal>(
     rt: &R,
     folder: &str,
     workflow: &[u8],
     policy: Option<&[u8]>,
-) -> Result<(), FolderFault> {
+    tidied: bool,
+) -> Result<(), FolderFault>
+    ensures no_lock { ¬ (IsErrOf result InUse) }
+{
     if fs::symlink_metadata(rt, folder).is_ok() {
         return Err(FolderFault::Exists);
     }
@@ -56,7 +70,7 @@ pub fn make_case<R: Files<File = File> + AllocGlobal>(
         Err(error) if error.kind() == ErrorKind::AlreadyExists => return Err(FolderFault::Exists),
         Err(error) => return Err(FolderFault::System(error)),
     }
-    make_files(rt, &made, workflow, policy)?;
+    make_files(rt, &made, workflow, policy, tidied)?;
     sync_folder(rt, &made)?;
     fs::rename(rt, &made, folder)?;
     sync_folder(rt, folder_around(folder))?;

@@ -31,6 +31,9 @@ pub trait Book {
     /// Its run.
     fn core(&self) -> &Core;
 
+    /// The text of its workflow.
+    fn workflow_text(&self) -> &[u8];
+
     /// Who may take what, where the case has a policy.
     fn policy(&self) -> Option<&Policy>;
 
@@ -45,6 +48,12 @@ pub trait Book {
 
     /// Whether no step back goes over a done leaf of the event.
     fn is_final(&self, event: u32) -> bool;
+
+    /// Whether the policy lets the user step back.
+    fn may_step_back(&self, user: u32) -> bool;
+
+    /// Whether each `done` is followed by the updates that close off no choice.
+    fn is_tidied(&self) -> bool;
 
     /// Who made the entry at the place of the history.
     fn told(&self, place: usize) -> Option<Told<'_>>;

@@ -4,6 +4,7 @@ use crate::asked::Asked;
 use crate::book::Book;
 use crate::page::Page;
 use flow_ask::{Ask, Refusal};
+use flow_case_why::{constraint_words, push_reason_members};
 use flow_policy::Tie;
 use flow_reason::{Reason, why_leaf};
 use flow_standing::doings;
@@ -99,14 +100,25 @@ pub(crate) fn push_reason<B: Book>(
     book: &B,
     leaf: u32,
 ) -> Result<(), AllocError> {
-    let mut words = Vec::new(alloc);
     let reason = why_leaf(alloc, book.core(), leaf)?;
-    let (state, entry, user) = match &reason {
+    push_reason_words(alloc, page, book, leaf, &reason)
+}
+
+fn push_reason_words<B: Book>(
+    alloc: Global,
+    page: &mut Page,
+    book: &B,
+    leaf: u32,
+    reason: &Reason,
+) -> Result<(), AllocError> {
+    let mut words = Vec::new(alloc);
+    let (state, entry, user) = match reason {
         Reason::Done { entry } => (" is done: entry ", *entry, user_of(book, *entry)),
         Reason::Out { entry, user, .. } => (" is out: entry ", *entry, *user),
         _ => {
             reason.print(&mut words, book.core().workflow(), leaf)?;
-            return page.bytes(&words);
+            page.bytes(&words)?;
+            return push_constraints(alloc, page, book, reason);
         }
     };
     push_leaf_label(&mut words, book.core().workflow(), leaf)?;
@@ -115,6 +127,47 @@ pub(crate) fn push_reason<B: Book>(
     page.ordinal(entry)?;
     page.text(", by ")?;
     page.text(book.user_name(user))
+}
+
+/// Adds the words of the constraints that the reason names.
+fn push_constraints<B: Book>(
+    alloc: Global,
+    page: &mut Page,
+    book: &B,
+    reason: &Reason,
+) -> Result<(), AllocError> {
+    let Reason::WaitsByConstraints { constraints, .. } = reason else {
+        return Ok(());
+    };
+    page.text(" (")?;
+    for (index, number) in constraints.iter().enumerate() {
+        page.between(index, "; ")?;
+        page.number(*number)?;
+        page.text(": ")?;
+        page.bytes(&constraint_words(alloc, book.workflow_text(), *number)?)?;
+    }
+    page.text(")")
+}
+
+/// Adds the member `why`: the reason why the leaf is not taken or done now.
+pub(crate) fn push_why<B: Book>(
+    alloc: Global,
+    page: &mut Page,
+    book: &B,
+    leaf: u32,
+) -> Result<(), AllocError> {
+    let reason = why_leaf(alloc, book.core(), leaf)?;
+    let mut label = Vec::new(alloc);
+    push_leaf_label(&mut label, book.core().workflow(), leaf)?;
+    page.member("why")?;
+    page.text("[{\"leaf\":")?;
+    page.number(leaf)?;
+    page.member("task")?;
+    page.quoted(&label)?;
+    let mut members = Vec::new(alloc);
+    push_reason_members(&mut members, &reason)?;
+    page.bytes(&members)?;
+    page.text("}]")
 }
 
 /// The user who made the entry at the place.

@@ -1,5 +1,5 @@
 use crate::book::{Book, Told};
-use crate::details::push_reason;
+use crate::details::{push_reason, push_why};
 use crate::page::{Form, Page};
 use crate::ticks::undone_text;
 use crate::todo::{label_of, todo_text};
@@ -64,9 +64,24 @@ pub(crate) fn why_text<B: Book>(
     form: Form,
 ) -> Result<Vec<u8>, AllocError> {
     book.look_ahead();
+    let mut words = Page::new(alloc);
+    push_reason(alloc, &mut words, book, leaf)?;
+    let words = words.into_text();
     let mut page = Page::new(alloc);
-    push_reason(alloc, &mut page, book, leaf)?;
-    shown(alloc, form, &page.into_text(), "\n")
+    match form {
+        Form::Words => {
+            page.bytes(&words)?;
+            page.text("\n")?;
+        }
+        Form::Json => {
+            page.text("{\"ok\":true")?;
+            push_why(alloc, &mut page, book, leaf)?;
+            page.member("reply")?;
+            page.quoted(&words)?;
+            page.text("}\n")?;
+        }
+    }
+    Ok(page.into_text())
 }
 
 /// The leaves on which claims were given, by the numbers of these, which begin at 1.

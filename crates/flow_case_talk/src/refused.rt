@@ -90,7 +90,11 @@ pub(crate) fn unmeant_words<B: Book>(
         NameRefusal::Several(leaves) => push_several(alloc, &mut page, book, &leaves)?,
         NameRefusal::NotOut { event } => {
             page.bytes(book.core().workflow().event_name(event))?;
-            page.text(" is not out: nobody has taken it")?;
+            page.text(" is not out: nobody has taken it; `flowdesk why ")?;
+            page.text(book.path())?;
+            page.text(" ")?;
+            page.bytes(book.core().workflow().event_name(event))?;
+            page.text("` tells more")?;
         }
         NameRefusal::NoMemory => return Err(AllocError),
     }

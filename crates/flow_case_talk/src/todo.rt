@@ -1,9 +1,16 @@
+ghost use Rattle.std.specs.Prelude.{IfOk};
+ghost use Rattle.flow_case_talk.specs.Lines.{AreLines};
+
 use crate::begun::{Beginning, CaseTodo, Later, case_todo, later_tasks, takers};
 use crate::book::Book;
+use crate::lines::whole_lines;
 use crate::page::{Form, Page};
 use crate::who::who_may;
+use flow_core::Core;
 use flow_model::Step;
 use flow_names::{OutTask, State};
+use flow_policy::Policy;
+use flow_staff::is_for_nobody;
 use flow_workflow::push_leaf_label;
 use std::alloc::{AllocError, Global};
 
@@ -52,7 +59,9 @@ fn push_labels<B: Book>(
 }
 
 /// A line that says what may be begun, and by whom.
-pub fn begin_line<B: Book>(alloc: Global, book: &mut B) -> Result<Vec<u8>, AllocError> {
+pub fn begin_line<B: Book>(alloc: Global, book: &mut B) -> Result<Vec<u8>, AllocError>
+    ensures { IfOk result (λ line. AreLines line.items) }
+{
     let todo = case_todo(alloc, book)?;
     let mut page = Page::new(alloc);
     match todo.todo.state {
@@ -61,7 +70,43 @@ pub fn begin_line<B: Book>(alloc: Global, book: &mut B) -> Result<Vec<u8>, Alloc
         _ => push_begin(alloc, &mut page, book, &todo.begin)?,
     }
     page.text("\n")?;
-    Ok(page.into_text())
+    whole_lines(page.into_text())
+}
+
+/// The tasks of the workflow that nobody may take under the policy, a line each.
+pub fn idle_lines<B: Book>(alloc: Global, book: &B) -> Result<Vec<u8>, AllocError>
+    ensures { IfOk result (λ lines. AreLines lines.items) }
+{
+    let mut page = Page::new(alloc);
+    if let Some(policy) = book.policy() {
+        push_idle(&mut page, book, policy)?;
+    }
+    whole_lines(page.into_text())
+}
+
+fn push_idle<B: Book>(page: &mut Page, book: &B, policy: &Policy) -> Result<(), AllocError> {
+    let workflow = book.core().workflow();
+    let below = book.users().saturating_add(1);
+    let events = u32::try_from(workflow.events().len()).unwrap_or(u32::MAX);
+    for event in 0..events {
+        if has_leaf(book.core(), event) && is_for_nobody(policy, event, below) {
+            page.text("nobody may take ")?;
+            page.bytes(workflow.event_name(event))?;
+            page.text(": the policy allows it to no role that a user has\n")?;
+        }
+    }
+    Ok(())
+}
+
+/// Whether the goal has a leaf of the event.
+fn has_leaf(core: &Core, event: u32) -> bool {
+    let tree = core.workflow().tree();
+    for leaf in 0..tree.leaves() {
+        if tree.event(leaf) == Some(event) {
+            return true;
+        }
+    }
+    false
 }
 
 fn push_begin<B: Book>(

@@ -1,2 +1,3 @@
 mod RoleSteps
 mod RoleLemmas
+pub mod NobodyLemmas

@@ -1,4 +1,5 @@
-ghost use Rattle.std.specs.Prelude.{◌≡◌, ◌↔◌, ℕ, IsTrue, MatchOption};
+ghost use Rattle.std.specs.Prelude.{◌≡◌, ◌↔◌, ◌<◌, ℕ, IsTrue, MatchOption};
+ghost use Rattle.flow_model.specs.Duties.{HasRole};
 ghost use Rattle.flow_core.specs.Answers.{IsLeast};
 ghost use Rattle.flow_roles.specs.Having.{HasEvent, IsWithAnother};
 ghost use Rattle.flow_roles.specs.Answers.{IsKeptApart, IsTiedElsewhere, IsLeftTo, IsDenied};
@@ -32,6 +33,18 @@ pub fn denial(core: &Core, policy: &Policy, event: u32, by: u32) -> Option<Denie
         Some(index) => Some(Denied::Bind(index)),
         None => None,
     }
+}
+
+/// Whether no user with a lower number than that has a role that is allowed the event.
+pub fn is_for_nobody(policy: &Policy, event: u32, below: u32) -> bool
+    ensures { IsTrue result ↔ ((user : ℕ) → user < below → ¬ (HasRole policy.now.duties user event)) }
+{
+    for user in 0..below {
+        if policy.has_role(user, event) {
+            return false;
+        }
+    }
+    true
 }
 
 /// The least constraint by which the event is not for the user, who has another event.

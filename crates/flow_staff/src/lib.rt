@@ -4,5 +4,5 @@
 mod duties;
 mod roles;
 
-pub use duties::{denial, may_take};
+pub use duties::{denial, is_for_nobody, may_take};
 pub use roles::roles_allowed;

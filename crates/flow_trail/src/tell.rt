@@ -1,7 +1,7 @@
 ghost use Rattle.std.specs.Prelude.{◌≡◌, ◌↔◌, ◌⊎◌, ◌+◌, ◌-◌, ◌^◌, ◌<◌, ◌≤◌, map, [], ◌∷◌, ◌++◌, ℕ, List, length, drop, true, false, Ok, Err, IfOk, OnOk};
 ghost use Rattle.flow_disk.specs.Disk.{Leaves};
 ghost use Rattle.flow_trail.specs.Whole.{line_of};
-ghost use Rattle.flow_trail.specs.Lines.{said_of, line_text, CanFollow, end_of, end_behind, Says};
+ghost use Rattle.flow_trail.specs.Lines.{said_of, line_text, trail_text, CanFollow, end_of, end_behind, Says};
 ghost use Rattle.flow_trail.specs.Kept.{SaysEither};
 ghost use Rattle.flow_trail.specs.declared.refusal.TellRefusal.TheVariants.{Broken, OutOfPlace, NoMemory, Full, DiskFault};
 
@@ -105,6 +105,13 @@ impl<D: Disk> Trail<D> {
         ensures { result ≡ end_of (start_of self.now) (said_in self.now) }
     {
         self.end
+    }
+
+    /// How many bytes the lines take. What stands behind them in the file means nothing.
+    pub fn bytes(&self) -> u64
+        ensures { result ≡ length (trail_text (start_of self.now) (said_in self.now)) }
+    {
+        self.place
     }
 
     /// Whether a call failed at the disk. From then on nothing is told any more.

@@ -1,7 +1,7 @@
-//! A dialogue with a case: each line is answered before the next is read.
+//! A dialogue with a case: each line is answered before the next is read. At a terminal the case stands before each line.
 
-use crate::NO_MEMORY;
 use crate::cases::{FileCase, REFUSED, ask_line, asker_in, opened, stamp, wait_in};
+use crate::{NO_MEMORY, write};
 use clap::ArgMatches;
 use std::alloc::AllocError;
 use std::fs::File;
@@ -16,15 +16,16 @@ const READ_FAULT: u8 = 4;
 pub(crate) fn dialogue<
     R: Files<File = File> + Env + Clock + AllocGlobal + Print + Eprint,
     I: BufRead + Drop,
->(rt: &R, words: &ArgMatches<'_>, input: I) -> u8 {
+>(rt: &R, words: &ArgMatches<'_>, input: I, at_terminal: bool) -> u8 {
     let mut input = input;
+    let prompts = at_terminal && !words.get_flag("json");
     let case = words.get_str("case").unwrap_or("");
     let Ok(first) = stamp(rt) else {
         return NO_MEMORY;
     };
     match opened(rt, case, wait_in(words), &first) {
         Ok(mut book) => {
-            let status = answer_lines(rt, &mut book, words, &mut input);
+            let status = answer_lines(rt, &mut book, words, &mut input, prompts);
             drop(book);
             status
         }
@@ -32,30 +33,46 @@ pub(crate) fn dialogue<
     }
 }
 
-/// Answers line after line.
+/// Writes the case before a line is read, where that is wanted, and gives the status.
+fn prompt(rt: &(impl AllocGlobal + Print + Eprint), words: &ArgMatches<'_>, is_wanted: bool) -> u8 {
+    if !is_wanted {
+        return 0;
+    }
+    let case = words.get_str("case").unwrap_or("");
+    match format!(in rt.alloc(); "{case}> ") {
+        Ok(text) => write(rt, text.as_bytes()),
+        Err(AllocError) => NO_MEMORY,
+    }
+}
+
+/// Answers line after line. A dialogue that comes to the end of its input has done all, whatever it replied.
 fn answer_lines<'a, R: Files<File = File> + Env + Clock + AllocGlobal + Print + Eprint, I: BufRead>(
     rt: &R,
     book: &mut FileCase<'a, R>,
     words: &ArgMatches<'_>,
     input: &mut I,
+    prompts: bool,
 ) -> u8 {
     let mut line = Vec::new(rt.alloc());
-    let mut status = 0;
     for _ in 0..u64::MAX {
+        let fault = prompt(rt, words, prompts);
+        if fault != 0 {
+            return fault;
+        }
         line.clear();
-        match input.read_until(b'\n', &mut line) {
-            Ok(0) => return status,
-            Ok(_) => status = answer_line(rt, book, words, trimmed(&line)),
+        let status = match input.read_until(b'\n', &mut line) {
+            Ok(0) => return 0,
+            Ok(_) => answer_line(rt, book, words, trimmed(&line)),
             Err(error) => {
                 let _ = eprintln!(rt; "flowdesk: standard input: {error}");
                 return READ_FAULT;
             }
-        }
+        };
         if status > REFUSED {
             return status;
         }
     }
-    status
+    0
 }
 
 /// The line without its line feed.

@@ -1,9 +1,13 @@
 //! Why a case is not made, read or opened, in words.
 
 use crate::{DISK, NO_MEMORY};
+use flow_case::CasePolicyRefusal;
 use flow_case_book::CaseStop;
 use flow_case_files::FolderFault;
+use flow_case_why::{policy_place, push_policy_fault};
+use flow_desk::{Position, position_of};
 use flow_front::{Status, Stop};
+use std::alloc::AllocError;
 
 /// The status where the case is refused.
 const REFUSED: u8 = 1;
@@ -50,12 +54,40 @@ fn tell_workflow(rt: &impl Eprint, case: &str, stop: &Stop) -> u8 {
     }
 }
 
+/// Says where and why the policy in a file is refused, and gives the status. So many lines of the file stand before the policy.
+pub(crate) fn tell_policy(
+    rt: &(impl AllocGlobal + Eprint),
+    file: &str,
+    before: usize,
+    policy: &[u8],
+    refusal: &CasePolicyRefusal,
+) -> u8 {
+    let Some(place) = policy_place(refusal) else {
+        return NO_MEMORY;
+    };
+    let Position { line, column } = position_of(policy, place);
+    let line = line.saturating_add(before);
+    let mut words = Vec::new(rt.alloc());
+    match push_policy_fault(&mut words, policy, refusal) {
+        Ok(()) => {
+            let words = str::from_utf8(&words).unwrap_or("\n");
+            let _ = eprint!(rt; "{file}:{line}:{column}: the policy is refused: {words}");
+            TEXT
+        }
+        Err(AllocError) => NO_MEMORY,
+    }
+}
+
 /// Says why a case is not opened or made, and gives the status.
 pub(crate) fn tell_stop(rt: &impl Eprint, case: &str, stop: CaseStop) -> u8 {
     match stop {
         CaseStop::Workflow(stop) => tell_workflow(rt, case, &stop),
         CaseStop::Policy(refusal) => {
             let _ = eprintln!(rt; "{case}: the policy is refused: {refusal}");
+            TEXT
+        }
+        CaseStop::LongPolicy => {
+            let _ = eprintln!(rt; "{case}: the policy has more than 1048576 bytes");
             TEXT
         }
         CaseStop::Foreign(index) => {

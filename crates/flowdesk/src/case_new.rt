@@ -1,21 +1,20 @@
 //! The folder of a case is made.
 
-use crate::case_faults::{tell_folder, tell_stop};
-use crate::cases::{WAIT, opened, say_begin};
+use crate::case_faults::{tell_folder, tell_policy, tell_stop};
+use crate::cases::{WAIT, opened, say_begin, say_idle};
 use crate::{read, unread};
 use clap::ArgMatches;
-use flow_case_book::{CaseTexts, check_texts};
+use flow_case_book::{CaseStop, CaseTexts, check_texts};
 use flow_case_files::{GREATEST_TEXT, make_case};
 use std::fs::File;
 use std::rt::{Env, Files};
 use std::time::{Clock, Duration};
 
-/// Makes the folder of a case, and says what may be begun in it.
+/// Makes the folder of a case, and says which of its tasks nobody may take, and what may be begun in it.
 pub(crate) fn make<R: Files<File = File> + Env + Clock + AllocGlobal + Print + Eprint>(
     rt: &R,
     words: &ArgMatches<'_>,
 ) -> u8 {
-    let case = words.get_str("case").unwrap_or("");
     let file = words.get_str("workflow").unwrap_or("");
     let workflow = match read(rt, file, GREATEST_TEXT) {
         Ok(text) => text,
@@ -29,8 +28,8 @@ pub(crate) fn make<R: Files<File = File> + Env + Clock + AllocGlobal + Print + E
         None => None,
     };
     match &policy {
-        Some(policy) => make_governed(rt, case, &workflow, without_divider(policy)),
-        None => make_free(rt, case, &workflow),
+        Some(policy) => make_governed(rt, words, &workflow, policy),
+        None => make_free(rt, words, &workflow),
     }
 }
 
@@ -45,39 +44,57 @@ fn without_divider(text: &[u8]) -> &[u8] {
 /// Makes the folder of a case under a policy.
 fn make_governed<'x, R: Files<File = File> + Clock + AllocGlobal + Print + Eprint>(
     rt: &R,
-    case: &str,
+    words: &ArgMatches<'_>,
     workflow: &'x [u8],
-    policy: &'x [u8],
+    file: &'x [u8],
 ) -> u8 {
-    let policy = Some(policy);
-    make_checked(rt, case, CaseTexts { workflow, policy })
+    let policy = without_divider(file);
+    let before = if policy.len() < file.len() { 1 } else { 0 };
+    let texts = CaseTexts {
+        workflow,
+        policy: Some(policy),
+    };
+    match check_texts(rt.alloc(), texts) {
+        Ok(()) => make_checked(rt, words, texts),
+        Err(CaseStop::Policy(refusal)) => {
+            let file = words.get_str("policy").unwrap_or("");
+            tell_policy(rt, file, before, policy, &refusal)
+        }
+        Err(stop) => tell_stop(rt, words.get_str("case").unwrap_or(""), stop),
+    }
 }
 
 /// Makes the folder of a case without a policy.
 fn make_free<R: Files<File = File> + Clock + AllocGlobal + Print + Eprint>(
     rt: &R,
-    case: &str,
+    words: &ArgMatches<'_>,
     workflow: &[u8],
 ) -> u8 {
     let policy = None;
-    make_checked(rt, case, CaseTexts { workflow, policy })
+    let texts = CaseTexts { workflow, policy };
+    match check_texts(rt.alloc(), texts) {
+        Ok(()) => make_checked(rt, words, texts),
+        Err(stop) => tell_stop(rt, words.get_str("case").unwrap_or(""), stop),
+    }
 }
 
-/// Makes the folder of a case of these texts, where they are not refused.
+/// Makes the folder of a case of these texts, which are not refused.
 fn make_checked<R: Files<File = File> + Clock + AllocGlobal + Print + Eprint>(
     rt: &R,
-    case: &str,
+    words: &ArgMatches<'_>,
     texts: CaseTexts<'_>,
 ) -> u8 {
-    if let Err(stop) = check_texts(rt.alloc(), texts) {
-        return tell_stop(rt, case, stop);
-    }
-    if let Err(fault) = make_case(rt, case, texts.workflow, texts.policy) {
+    let case = words.get_str("case").unwrap_or("");
+    let tidied = words.get_flag("tidy");
+    if let Err(fault) = make_case(rt, case, texts.workflow, texts.policy, tidied) {
         return tell_folder(rt, case, fault);
     }
     match opened(rt, case, Duration::from_secs(WAIT), "") {
         Ok(mut book) => {
-            let status = say_begin(rt, &mut book);
+            let status = match say_idle(rt, &book) {
+                0 => say_begin(rt, &mut book),
+                fault => fault,
+            };
             drop(book);
             status
         }

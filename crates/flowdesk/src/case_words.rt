@@ -185,10 +185,15 @@ fn command_of<'a>(alloc: Global, command: &CaseCommand) -> Result<Command<'a>, A
 /// The words that make a case.
 fn new_command<'a>(alloc: Global) -> Result<Command<'a>, AllocError> {
     let workflow = option(alloc, "workflow", "FILE", "the text of the workflow").required(true);
+    let tidy = Arg::new(alloc, "tidy")
+        .long("tidy")
+        .help("each done makes the changes of facts that close off no choice")
+        .action(ArgAction::SetTrue);
     Command::new(alloc, "new")
         .about("Makes the folder of a case")
         .arg(case_arg(alloc))?
         .arg(workflow)?
+        .arg(tidy)?
         .arg(option(
             alloc,
             "policy",

@@ -5,9 +5,9 @@ use crate::case_faults::{tell_folder, tell_stop};
 use crate::case_words::line_in;
 use crate::{NO_MEMORY, write};
 use clap::ArgMatches;
-use flow_case_book::{Asker, CaseBook, KeptTexts, VerifyRefusal, open_case};
+use flow_case_book::{Asker, CaseBook, KeptTexts, open_case};
 use flow_case_files::{CaseDisks, open_disks, read_case};
-use flow_case_talk::{Form, Outcome, Reply, begin_line};
+use flow_case_talk::{Form, Outcome, Reply, begin_line, idle_lines};
 use flow_disk::{Disk, FileDisk};
 use jiff::Timestamp;
 use std::alloc::AllocError;
@@ -102,6 +102,7 @@ fn texts_of<R: Files<File = File> + AllocGlobal + Eprint>(
             path,
             workflow: texts.workflow,
             policy: texts.policy,
+            tidied: texts.tidied,
         }),
         Err(AllocError) => Err(NO_MEMORY),
     }
@@ -205,6 +206,17 @@ pub(crate) fn ask_case<R: Files<File = File> + Env + Clock + AllocGlobal + Print
     }
 }
 
+/// Says which tasks nobody may take.
+pub(crate) fn say_idle<'a, R: Files<File = File> + AllocGlobal + Print + Eprint>(
+    rt: &R,
+    book: &FileCase<'a, R>,
+) -> u8 {
+    match idle_lines(rt.alloc(), book) {
+        Ok(lines) => write(rt, &lines),
+        Err(AllocError) => NO_MEMORY,
+    }
+}
+
 /// Says what may be begun.
 pub(crate) fn say_begin<'a, R: Files<File = File> + AllocGlobal + Print + Eprint>(
     rt: &R,
@@ -214,54 +226,4 @@ pub(crate) fn say_begin<'a, R: Files<File = File> + AllocGlobal + Print + Eprint
         Ok(line) => write(rt, &line),
         Err(AllocError) => NO_MEMORY,
     }
-}
-
-/// Checks a case, and says where its trail ends.
-pub(crate) fn verify<R: Files<File = File> + Clock + AllocGlobal + Print + Eprint>(
-    rt: &R,
-    words: &ArgMatches<'_>,
-) -> u8 {
-    let case = words.get_str("case").unwrap_or("");
-    let Ok(at) = stamp(rt) else {
-        return NO_MEMORY;
-    };
-    match opened(rt, case, wait_in(words), &at) {
-        Ok(book) => {
-            let status = say_whole(rt, &book);
-            drop(book);
-            status
-        }
-        Err(status) => status,
-    }
-}
-
-/// Says whether the trail tells just the entries, and its last seal.
-fn say_whole<'a, R: Files<File = File> + AllocGlobal + Print + Eprint>(
-    rt: &R,
-    book: &FileCase<'a, R>,
-) -> u8 {
-    match book.verify() {
-        Ok(()) => say_text(rt, whole_line(rt, book), 0),
-        Err(VerifyRefusal::NoMemory) => NO_MEMORY,
-        Err(refusal) => say_text(rt, format!(in rt.alloc(); "{refusal}\n"), REFUSED),
-    }
-}
-
-/// Writes the text, and gives the status where it is written.
-fn say_text(rt: &(impl Print + Eprint), text: Result<String, AllocError>, status: u8) -> u8 {
-    match text {
-        Ok(text) => match write(rt, text.as_bytes()) {
-            0 => status,
-            fault => fault,
-        },
-        Err(AllocError) => NO_MEMORY,
-    }
-}
-
-fn whole_line<'a, R: Files<File = File> + AllocGlobal>(
-    rt: &R,
-    book: &FileCase<'a, R>,
-) -> Result<String, AllocError> {
-    let seal = book.seal(rt.alloc())?;
-    format!(in rt.alloc(); "whole: the last seal is {seal}\n")
 }

@@ -8,6 +8,7 @@ mod case_dialogue;
 mod case_drawn;
 mod case_faults;
 mod case_new;
+mod case_whole;
 mod case_words;
 mod cases;
 mod explained;
@@ -19,8 +20,9 @@ mod words;
 use case_dialogue::dialogue;
 use case_drawn::draw_case;
 use case_new::make;
+use case_whole::verify;
 use case_words::is_case_command;
-use cases::{ask_case, verify};
+use cases::ask_case;
 use explained::explain_file;
 use flow_desk::{GREATEST_INPUT, GREATEST_RUN, drawn, read_front};
 use linted::lint_file;
@@ -29,7 +31,7 @@ use message::{NO_MEMORY, tell};
 use std::alloc::AllocError;
 use std::env;
 use std::fs::{self, File};
-use std::io::{self, Write};
+use std::io::{self, IsTerminal, Write};
 use std::process::ExitCode;
 use std::rt::{Env, Files};
 use std::thread::Threads;
@@ -137,7 +139,7 @@ fn draw_file<R: Files<File = File> + AllocGlobal + Print + Eprint>(rt: &R, call:
 /// Reads the words, does what they ask for, and gives the status.
 fn desk<
     R: Files<File = File> + Env + Clock + Input + AllocGlobal + Print + Eprint + Threads + Sync,
->(rt: &R) -> u8 {
+>(rt: &R, at_terminal: bool) -> u8 {
     let Ok(words) = words_given(rt) else {
         return NO_MEMORY;
     };
@@ -151,7 +153,7 @@ fn desk<
             Some((name, words)) if name == "log" => log_file(rt, words),
             Some((name, words)) if name == "new" => make(rt, words),
             Some((name, words)) if name == "verify" => verify(rt, words),
-            Some((name, words)) if name == "open" => dialogue(rt, words, rt.reader()),
+            Some((name, words)) if name == "open" => dialogue(rt, words, rt.reader(), at_terminal),
             Some((name, words)) if is_case_command(name) => ask_case(rt, name, words),
             _ => match call_in(&matches) {
                 Some(call) => draw(rt, call),
@@ -167,5 +169,6 @@ fn desk<
 }
 
 fn main(rt: HostRuntime) -> ExitCode {
-    ExitCode::from(desk(&rt))
+    let at_terminal = rt.stdin().is_terminal();
+    ExitCode::from(desk(&rt, at_terminal))
 }

@@ -2,12 +2,13 @@
 //!
 //! The input has a workflow, a policy, which may be empty, and lines, with `%%` between them. The lines `as USER`, `at TIME` and
 //! `note TEXT` say who speaks from then on, when, and with which note; each other line is said to the case. The output has each of
-//! these behind `> `, and the reply to it.
+//! these behind `> `, and the reply to it. The word `--tidy` says that the case was made with it. The line `new` has what is said of a
+//! case that is new.
 
 use crate::rows::Row;
 use anyhow::{Context, Result, bail};
 use flow_case_book::{Asker, CaseBook, KeptTexts, open_case};
-use flow_case_talk::{Form, Outcome, Reply};
+use flow_case_talk::{Form, Reply, begin_line, idle_lines};
 use flow_disk::MemDisk;
 use std::alloc::Global;
 
@@ -17,8 +18,8 @@ const POOL: usize = 65_536;
 /// More calls than a row makes of a disk.
 const CALLS: u32 = 4_000;
 
-/// The status of a dialogue whose last line was refused.
-const REFUSED: u8 = 1;
+/// The status of a dialogue that comes to the end of its input, whatever was replied.
+const IN_ORDER: u8 = 0;
 
 /// A case in memory.
 type MemCase = CaseBook<MemDisk, MemDisk>;
@@ -44,7 +45,7 @@ fn parts_of(input: &str) -> Result<Parts<'_>> {
 }
 
 /// The texts of a case.
-fn texts_of(alloc: Global, path: &str, parts: Parts<'_>) -> Result<KeptTexts> {
+fn texts_of(alloc: Global, path: &str, parts: Parts<'_>, tidied: bool) -> Result<KeptTexts> {
     let policy = if parts.policy.is_empty() {
         None
     } else {
@@ -54,12 +55,13 @@ fn texts_of(alloc: Global, path: &str, parts: Parts<'_>) -> Result<KeptTexts> {
         path: String::from_str(alloc, path)?,
         workflow: parts.workflow.as_bytes().to_vec(alloc)?,
         policy,
+        tidied,
     })
 }
 
 /// A case that has no entry yet.
-fn new_case(alloc: Global, path: &str, parts: Parts<'_>) -> Result<MemCase> {
-    let texts = texts_of(alloc, path, parts)?;
+fn new_case(alloc: Global, path: &str, parts: Parts<'_>, tidied: bool) -> Result<MemCase> {
+    let texts = texts_of(alloc, path, parts, tidied)?;
     let entries = MemDisk::new(alloc, Vec::new(alloc), POOL, CALLS)?;
     let trail = MemDisk::new(alloc, Vec::new(alloc), POOL, CALLS)?;
     match open_case(alloc, texts, entries, trail, String::new(alloc)) {
@@ -102,41 +104,39 @@ impl<'a> Saying<'a> {
 
 /// The form that the words ask for.
 fn form_in(words: &[String]) -> Form {
-    if words.iter().any(|word| word.as_str() == "--json") {
+    if has_word(words, "--json") {
         Form::Json
     } else {
         Form::Words
     }
 }
 
-/// The status of a dialogue whose last reply this is.
-fn status_of(reply: &Reply) -> u8 {
-    if reply.outcome == Outcome::Refused {
-        REFUSED
-    } else {
-        0
-    }
+/// Whether the words have that one.
+fn has_word(words: &[String], wanted: &str) -> bool {
+    words.iter().any(|word| word.as_str() == wanted)
 }
 
-/// The status of the dialogue of these lines, and what is written.
-fn speak(case: &mut MemCase, alloc: Global, lines: &str, form: Form) -> Result<(u8, Vec<u8>)> {
+/// What is written of the dialogue of these lines.
+fn speak(case: &mut MemCase, alloc: Global, lines: &str, form: Form) -> Result<Vec<u8>> {
     let mut saying = Saying {
         name: "nobody",
         at: "2026-11-30T09:00:00Z",
         note: "",
     };
     let mut written = Vec::new(alloc);
-    let mut status = 0;
     for line in lines.lines() {
         if let Some(other) = saying.told_by(line) {
             saying = other;
             continue;
         }
-        let reply = saying.say(case, line, form)?;
-        status = status_of(&reply);
-        push_reply(&mut written, line, &reply)?;
+        let said = if line == "new" {
+            new_text(alloc, case)?
+        } else {
+            saying.say(case, line, form)?.text
+        };
+        push_reply(&mut written, line, &said)?;
     }
-    Ok((status, written))
+    Ok(written)
 }
 
 /// The status of the dialogue that a row describes, and what is written.
@@ -144,16 +144,23 @@ pub(crate) fn spoken_by(alloc: Global, words: &[String], row: &Row<'_>) -> Resul
     let path = words.get(2).context("a dialogue without a case")?;
     let input = str::from_utf8(&row.input).context("no text is read")?;
     let parts = parts_of(input)?;
-    let mut case = new_case(alloc, path.as_str(), parts)?;
+    let mut case = new_case(alloc, path.as_str(), parts, has_word(words, "--tidy"))?;
     let spoken = speak(&mut case, alloc, parts.lines, form_in(words));
     drop(case);
-    spoken
+    Ok((IN_ORDER, spoken?))
+}
+
+/// What is said of a case that is new.
+fn new_text(alloc: Global, case: &mut MemCase) -> Result<Vec<u8>> {
+    let mut text = idle_lines(alloc, case)?;
+    text.extend_from_slice(&begin_line(alloc, case)?)?;
+    Ok(text)
 }
 
 /// Adds the line and the reply to it.
-fn push_reply(written: &mut Vec<u8>, line: &str, reply: &Reply) -> Result<()> {
+fn push_reply(written: &mut Vec<u8>, line: &str, reply: &[u8]) -> Result<()> {
     written.extend_from_slice(b"> ")?;
     written.extend_from_slice(line.as_bytes())?;
     written.push(b'\n')?;
-    Ok(written.extend_from_slice(&reply.text)?)
+    Ok(written.extend_from_slice(reply)?)
 }
