@@ -1,3 +1,4 @@
+pub mod Deviating
 pub mod Judged
 pub mod Shares
 pub mod Sums

@@ -1,4 +1,5 @@
-ghost use Rattle.std.specs.Prelude.{◌≡◌, IfOk};
+ghost use Rattle.std.specs.Prelude.{◌≡◌, option_map, IfOk};
+ghost use Rattle.flow_conformance.specs.Deviating.{deviating_event, event_in, events_of, finding_of, found_place, place_in};
 
 use crate::cause::Finding;
 use crate::judge::Verdict;
@@ -18,10 +19,36 @@ pub struct Findings {
 }
 
 /// The place at which a sequence deviates.
-pub(crate) fn place_of(finding: &Finding) -> Option<u32> {
+pub(crate) fn place_of(finding: &Finding) -> Option<u32>
+    ensures { result ≡ place_in finding.now.verdict }
+{
     match finding.verdict {
-        Verdict::Deviates { at } | Verdict::Unknown { at } => Some(at),
-        _ => None,
+        Verdict::Execution | Verdict::Front | Verdict::Undecided => None,
+        Verdict::Deviates { at } => Some(at),
+        Verdict::Unknown { at } => Some(at),
+    }
+}
+
+/// The place at which a case deviates of which that is found.
+fn found_place(finding: Option<Finding>) -> Option<u32>
+    ensures { result ≡ found_place finding }
+{
+    match finding {
+        Some(finding) => place_of(&finding),
+        None => None,
+    }
+}
+
+/// The event at a place, if there are events and a place.
+fn event_in(place: Option<u32>, events: Option<&Vec<u32>>) -> Option<u32>
+    ensures { result ≡ event_in place (option_map (λ events. events.now) events.entry) }
+{
+    match place {
+        Some(place) => match events {
+            Some(events) => events.get(place as usize).copied(),
+            None => None,
+        },
+        None => None,
     }
 }
 
@@ -45,7 +72,9 @@ impl Findings {
     }
 
     /// What is found of a case, by its number.
-    pub fn of_case(&self, case: usize) -> Option<Finding> {
+    pub fn of_case(&self, case: usize) -> Option<Finding>
+        ensures { result ≡ finding_of self.now case }
+    {
         match self.cases.of_cases.get(case) {
             Some(sequence) => self.of_sequences.get(*sequence as usize).copied(),
             None => None,
@@ -53,11 +82,19 @@ impl Findings {
     }
 
     /// The event at which a case deviates.
-    pub fn event_of(&self, case: usize) -> Option<u32> {
-        let finding = self.of_case(case)?;
-        let at = place_of(&finding)?;
-        let sequence = self.cases.of_cases.get(case)?;
-        let events = self.cases.sequences.get(*sequence as usize)?;
-        events.get(at as usize).copied()
+    pub fn event_of(&self, case: usize) -> Option<u32>
+        ensures { result ≡ deviating_event self.now case }
+    {
+        event_in(found_place(self.of_case(case)), self.events_of(case))
+    }
+
+    /// The events of a case.
+    fn events_of(&self, case: usize) -> Option<&Vec<u32>>
+        ensures { option_map (λ events. events.now) result ≡ events_of self.now case }
+    {
+        match self.cases.of_cases.get(case) {
+            Some(sequence) => self.cases.sequences.get(*sequence as usize),
+            None => None,
+        }
     }
 }

@@ -5,11 +5,11 @@ use std::collections::HashMap;
 
 /// Cases that deviate at the same event for the same cause: how many, and the first of them.
 #[derive(Clone, Copy)]
-pub struct Kind {
-    pub event: u32,
-    pub cause: Cause,
-    pub cases: u64,
-    pub first: usize,
+pub(crate) struct Kind {
+    pub(crate) event: u32,
+    pub(crate) cause: Cause,
+    pub(crate) cases: u64,
+    pub(crate) first: usize,
 }
 
 /// At which event, and why.
@@ -77,7 +77,7 @@ fn kinds_in_order(alloc: Global, found: &Findings) -> Result<Vec<Kind>, AllocErr
 }
 
 /// The kinds of deviation, those of the most cases first.
-pub fn kinds_of(alloc: Global, found: &Findings) -> Result<Vec<Kind>, AllocError> {
+pub(crate) fn kinds_of(alloc: Global, found: &Findings) -> Result<Vec<Kind>, AllocError> {
     let mut kinds = kinds_in_order(alloc, found)?;
     kinds.sort_by_key(|kind| u64::MAX.wrapping_sub(kind.cases))?;
     Ok(kinds)

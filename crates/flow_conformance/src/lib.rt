@@ -18,7 +18,6 @@ pub use csv_form::write_csv;
 pub use findings::Findings;
 pub use json_form::write_json;
 pub use judge::{Judge, Verdict};
-pub use kinds::{Kind, kinds_of};
 pub use page::{Answered, Labels};
 pub use sums::{Sums, sums_of};
 pub use text_form::write_text;
