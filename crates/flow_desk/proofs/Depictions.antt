@@ -12,19 +12,30 @@ use Rattle.flow_view.specs.Sketch.{Sketch}
 use Rattle.flow_draw.specs.declared.format.Format.{Format}
 use Rattle.flow_draw.specs.Notes.{note_of}
 use Rattle.flow_desk.specs.Viewing.{view_stop}
-use Rattle.flow_desk.specs.Desk.{AreLabels, IsPrinted, IsDepicted, IsNotDepicted}
+use Rattle.flow_desk.specs.declared.stop.DeskStop.{DeskStop}
+use Rattle.flow_desk.specs.declared.stop.DeskStop.TheVariants.{Workflow, RunTooLong, Line, Label, Illegal, TooLarge, NoMemory}
+use Rattle.flow_desk.specs.Desk.{AreLabels, IsPrinted, IsDepicted, IsNotDepicted, IsNotPlaced}
 
 pub map-map : {A B C : Type 0} (f : B → C) (g : A → B) (xs : List A) → map (λ x. f (g x)) xs ≡ map f (map g xs)
 map-map f g [] = refl
 map-map f g (x ∷ xs) = ap (λ l. f (g x) ∷ l) (map-map f g xs)
 
-module _ (s : Said) (w : Definition) (labels : Labels) (are : AreLabels s w labels) where
-  pub not_depicted : (why : ViewRefusal) → IsRefusal (drawing s labels w.tree.process) why → IsNotDepicted s w (view_stop why)
-  not_depicted view.TooLarge large = (labels, are, large)
-  not_depicted view.NoMemory starved = tt
+pub not_placed : (s : Said) (labels : Labels) (w : Definition) (why : ViewRefusal) → IsRefusal (drawing s labels w.tree.process) why → IsNotPlaced s labels w (view_stop why)
+not_placed s labels w view.TooLarge large = large
+not_placed s labels w view.NoMemory starved = tt
+
+module _ (s : Said) (w : Definition) (texts : List (List ℕ)) (labels : Labels) (are : AreLabels s texts labels) where
+  pub not_depicted : (stop : DeskStop) → IsNotPlaced s labels w stop → IsNotDepicted s w texts stop
+  not_depicted (Workflow telling) why = why
+  not_depicted RunTooLong why = why
+  not_depicted (Line line) why = why
+  not_depicted (Label line) why = why
+  not_depicted (Illegal line) why = why
+  not_depicted TooLarge large = (labels, are, large)
+  not_depicted NoMemory starved = tt
 
   pub depicted : (form : Format) (marks : List Mark) (text : List ℕ) (sketch : Sketch) (notes : List (List ℕ)) → sketch ≡ drawing s labels w.tree.process →
-      notes ≡ map note_of s.rules → IsPrinted form sketch labels w marks notes text → IsDepicted form s w marks text
+      notes ≡ map note_of s.rules → IsPrinted form sketch labels w marks notes text → IsDepicted form s w texts marks text
   depicted form marks text sketch notes drawn noted printed = record {
     labels = labels;
     labels_are = are;

@@ -29,6 +29,7 @@ use Rattle.flow_desk.specs.declared.run_file.TheConstants.{GREATEST_RUN}
 use Rattle.flow_desk.specs.declared.stop.DeskStop.{DeskStop}
 use Rattle.flow_desk.specs.declared.stop.DeskStop.TheVariants.{RunTooLong, Line, Label, Illegal, TooLarge, NoMemory}
 use Rattle.flow_desk.specs.declared.report.Untold.TheVariants as untold
+use Rattle.flow_desk.specs.Counted.{counted_texts}
 use Rattle.flow_desk.specs.Replay.{steps_for, IsFirstIllegal, IsReplayed}
 use Rattle.flow_desk.specs.Stopped.{IsStoppedFor}
 use Rattle.flow_desk.specs.Told.{Tells}
@@ -42,9 +43,9 @@ pub record IsPicture (w : Definition) (sketch : Sketch) (picture : Picture) : Ty
   pub arrows : picture.arrows.items ≡ take MOST_ARROWS (arrows_of w)
   pub left_out : picture.left_out ≡ nat_lt MOST_ARROWS (length (arrows_of w))
 
--- what is shown of the workflow that a script says
-pub record AreLabels (s : Said) (w : Definition) (labels : Labels) : Type 0 where
-  pub boxes : labels.boxes.items ≡ box_texts w
+-- what is shown of the workflow that a script says: its boxes have these texts
+pub record AreLabels (s : Said) (texts : List (List ℕ)) (labels : Labels) : Type 0 where
+  pub boxes : labels.boxes.items ≡ texts
   pub captions_are : labels.captions.items ≡ captions s.decls
 
 -- a picture's text in the form that is asked for
@@ -57,15 +58,17 @@ text_in Dot sketch picture labels marks notes = chart_text Dot sketch picture.ar
 abbrev pub IsPrinted : Format → Sketch → Labels → Definition → List Mark → List (List ℕ) → List ℕ → Type 0
 IsPrinted form sketch labels w marks notes text = (picture : Picture) × IsPicture w sketch picture × (text ≡ text_in form sketch picture labels marks notes)
 
--- The text is that of the picture of the workflow, with these marks, and with the constraints as the script has them.
-pub record IsDepicted (form : Format) (s : Said) (w : Definition) (marks : List Mark) (text : List ℕ) : Type 0 where
+-- The text is that of the picture of the workflow, with these texts in its boxes and with these marks, and with the constraints as the script has them.
+pub record IsDepicted (form : Format) (s : Said) (w : Definition) (texts : List (List ℕ)) (marks : List Mark) (text : List ℕ) : Type 0 where
   pub labels : Labels
-  pub labels_are : AreLabels s w labels
+  pub labels_are : AreLabels s texts labels
   pub printed : IsPrinted form (drawing s labels w.tree.process) labels w marks (map note_of s.rules) text
 
--- the picture of the workflow would be too large
-abbrev pub IsTooLargeFor : Said → Definition → Type 0
-IsTooLargeFor s w = (labels : Labels) × AreLabels s w labels × IsTooLarge (drawing s labels w.tree.process)
+-- why a workflow that shows these labels has no picture: it would be too large
+abbrev pub IsNotPlaced : Said → Labels → Definition → DeskStop → Type 0
+IsNotPlaced s labels w TooLarge = IsTooLarge (drawing s labels w.tree.process)
+IsNotPlaced s labels w NoMemory = Unit {0}
+IsNotPlaced s labels w other = ⊥
 
 -- the entry of that number stands on the line, where the file is a report whose entries begin on the first; of a journal's line nothing is said
 abbrev pub IsIllegalOn : Option ℕ → ℕ → DeskStop → Type 0
@@ -92,11 +95,11 @@ IsNoRun w text other = ⊥
 abbrev pub HasReplay : Definition → List ℕ → Run → List Mark → Type 0
 HasReplay w text run marks = (first : Option ℕ) × (entries : List Entry) × Tells w text first entries × IsReplayed w entries run marks
 
--- why a workflow is not drawn
-abbrev pub IsNotDepicted : Said → Definition → DeskStop → Type 0
-IsNotDepicted s w TooLarge = IsTooLargeFor s w
-IsNotDepicted s w NoMemory = Unit {0}
-IsNotDepicted s w other = ⊥
+-- why a workflow is not drawn with these texts in its boxes
+abbrev pub IsNotDepicted : Said → Definition → List (List ℕ) → DeskStop → Type 0
+IsNotDepicted s w texts TooLarge = (labels : Labels) × AreLabels s texts labels × IsTooLarge (drawing s labels w.tree.process)
+IsNotDepicted s w texts NoMemory = Unit {0}
+IsNotDepicted s w texts other = ⊥
 
 -- the marks of a run that the file tells; without a file there are none
 abbrev pub AreMarksFor : Definition → Option (List ℕ) → List Mark → Type 0
@@ -105,15 +108,15 @@ AreMarksFor w (Some text) marks = (run : Run) × HasReplay w text run marks
 
 -- what is drawn of what is said: the picture of its workflow, with these marks
 abbrev pub IsDrawnOf : Format → Said → Option (List ℕ) → List ℕ → Type 0
-IsDrawnOf form s file text = (w : Definition) × IsExpanded s w × ((marks : List Mark) × AreMarksFor w file marks × IsDepicted form s w marks text)
+IsDrawnOf form s file text = (w : Definition) × IsExpanded s w × ((marks : List Mark) × AreMarksFor w file marks × IsDepicted form s w (box_texts w) marks text)
 
 -- the workflow that is said and compiled: the file of its run tells none, or its picture is too large
 abbrev pub IsRunNotDrawn : Said → List ℕ → DeskStop → Type 0
-IsRunNotDrawn s text stop = (w : Definition) × IsExpanded s w × (IsNoRun w text stop ⊎ IsNotDepicted s w stop)
+IsRunNotDrawn s text stop = (w : Definition) × IsExpanded s w × (IsNoRun w text stop ⊎ IsNotDepicted s w (box_texts w) stop)
 
 -- why nothing is drawn of what is said: it is refused by flow, or the file of the run is, or the picture is too large
 abbrev pub IsNotDrawnOf : Said → Option (List ℕ) → DeskStop → Type 0
-IsNotDrawnOf s None stop = IsStoppedFor (event_names s.decls) (IsCause (the_script s)) stop ⊎ ((w : Definition) × IsExpanded s w × IsNotDepicted s w stop)
+IsNotDrawnOf s None stop = IsStoppedFor (event_names s.decls) (IsCause (the_script s)) stop ⊎ ((w : Definition) × IsExpanded s w × IsNotDepicted s w (box_texts w) stop)
 IsNotDrawnOf s (Some text) stop = IsStoppedFor (event_names s.decls) (IsNotPrepared s) stop ⊎ IsRunNotDrawn s text stop
 
 -- what the desk writes
@@ -124,3 +127,21 @@ IsDrawn text file form drawn = (s : Said) × Says (workflow_part text) s × IsDr
 abbrev pub IsNotDrawn : List ℕ → Option (List ℕ) → DeskStop → Type 0
 IsNotDrawn text file stop =
     IsStoppedFor [] (IsCause (the_source (Some text))) stop ⊎ ((s : Said) × Says (workflow_part text) s × IsNotDrawnOf s file stop)
+
+-- the picture of the workflow that is said: each box has the count of its leaf, if there is one
+abbrev pub IsCountDrawnOf : Format → Said → List ℕ → List ℕ → Type 0
+IsCountDrawnOf form s counts text = (w : Definition) × IsExpanded s w × IsDepicted form s w (counted_texts counts (box_texts w)) [] text
+
+-- why it is not drawn: it is refused by flow, or the picture is too large
+abbrev pub IsCountNotDrawnOf : Said → List ℕ → DeskStop → Type 0
+IsCountNotDrawnOf s counts stop =
+    IsStoppedFor (event_names s.decls) (IsCause (the_script s)) stop ⊎ ((w : Definition) × IsExpanded s w × IsNotDepicted s w (counted_texts counts (box_texts w)) stop)
+
+-- what the desk writes of a text and of counts
+abbrev pub IsCountDrawn : List ℕ → List ℕ → Format → List ℕ → Type 0
+IsCountDrawn text counts form drawn = (s : Said) × Says (workflow_part text) s × IsCountDrawnOf form s counts drawn
+
+-- why it writes nothing
+abbrev pub IsCountNotDrawn : List ℕ → List ℕ → DeskStop → Type 0
+IsCountNotDrawn text counts stop =
+    IsStoppedFor [] (IsCause (the_source (Some text))) stop ⊎ ((s : Said) × Says (workflow_part text) s × IsCountNotDrawnOf s counts stop)

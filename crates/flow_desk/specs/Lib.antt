@@ -1,3 +1,4 @@
+pub mod Counted
 pub mod Place
 pub mod Report
 pub mod Mark

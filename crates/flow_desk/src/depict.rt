@@ -4,10 +4,13 @@ ghost use Rattle.flow_form.specs.Script.{said};
 ghost use Rattle.flow_view.specs.Drawn.{drawing};
 ghost use Rattle.flow_view.specs.Sizes.{IsMeasured};
 ghost use Rattle.flow_view.specs.Sketch.{process_in, sketch_of};
+ghost use Rattle.flow_view.specs.Texts.{box_texts};
 ghost use Rattle.flow_draw.specs.Notes.{note_of};
+ghost use Rattle.flow_desk.specs.Counted.{counted_texts};
 ghost use Rattle.flow_desk.specs.Viewing.{view_stop};
-ghost use Rattle.flow_desk.specs.Desk.{AreLabels, IsPrinted, IsDepicted, IsNotDepicted, text_in};
+ghost use Rattle.flow_desk.specs.Desk.{AreLabels, IsPrinted, IsDepicted, IsNotDepicted, IsNotPlaced, text_in};
 
+use crate::counted::counted_boxes;
 use crate::stop::DeskStop;
 use flow_chart::{print_dot, print_mermaid};
 use flow_draw::{Format, notes_of};
@@ -35,15 +38,19 @@ fn view_stop(refusal: ViewRefusal) -> DeskStop
     }
 }
 
-/// The parts of the picture of a workflow that a script says.
-fn view_of(alloc: Global, script: &Script, workflow: &Workflow) -> Result<View, DeskStop>
-    ensures labels { IfOk result (λ view. AreLabels (said script.now) workflow.now view.labels) }
+/// The parts of the picture of a workflow that a script says, with what its boxes and frames show.
+fn placed(
+    alloc: Global,
+    script: &Script,
+    workflow: &Workflow,
+    labels: Labels,
+) -> Result<View, DeskStop>
+    ensures labels { IfOk result (λ view. view.labels ≡ labels) }
     ensures sketch { IfOk result (λ view. sketch_of view.scene ≡ drawing (said script.now) view.labels workflow.now.tree.process) }
     ensures goal { IfOk result (λ view. process_in (sketch_of view.scene) ≡ workflow.now.tree.process) }
     ensures measured { IfOk result (λ view. IsMeasured view.scene) }
-    ensures stop { IfErr result (IsNotDepicted (said script.now) workflow.now) }
+    ensures stop { IfErr result (IsNotPlaced (said script.now) labels workflow.now) }
 {
-    let labels = labels_of(alloc, script, workflow)?;
     match scene_of(alloc, script, workflow, &labels) {
         Ok(scene) => Ok(View { labels, scene }),
         Err(refusal) => {
@@ -51,6 +58,49 @@ fn view_of(alloc: Global, script: &Script, workflow: &Workflow) -> Result<View, 
             Err(view_stop(refusal))
         }
     }
+}
+
+/// What is shown of a workflow, with how many cases passed each leaf where that is counted.
+fn shown_of(
+    alloc: Global,
+    script: &Script,
+    workflow: &Workflow,
+    counts: &[u64],
+) -> Result<Labels, AllocError>
+    ensures { IfOk result (AreLabels (said script.now) (counted_texts counts.now (box_texts workflow.now))) }
+{
+    let Labels { boxes, captions } = labels_of(alloc, script, workflow)?;
+    match counted_boxes(alloc, &boxes, counts) {
+        Ok(counted) => {
+            drop(boxes);
+            Ok(Labels {
+                boxes: counted,
+                captions,
+            })
+        }
+        Err(refused) => {
+            drop(boxes);
+            drop(captions);
+            Err(refused)
+        }
+    }
+}
+
+/// The parts of the picture of a workflow that a script says.
+fn view_of(
+    alloc: Global,
+    script: &Script,
+    workflow: &Workflow,
+    counts: &[u64],
+) -> Result<View, DeskStop>
+    ensures labels { IfOk result (λ view. AreLabels (said script.now) (counted_texts counts.now (box_texts workflow.now)) view.labels) }
+    ensures sketch { IfOk result (λ view. sketch_of view.scene ≡ drawing (said script.now) view.labels workflow.now.tree.process) }
+    ensures goal { IfOk result (λ view. process_in (sketch_of view.scene) ≡ workflow.now.tree.process) }
+    ensures measured { IfOk result (λ view. IsMeasured view.scene) }
+    ensures stop { IfErr result (IsNotDepicted (said script.now) workflow.now (counted_texts counts.now (box_texts workflow.now))) }
+{
+    let labels = shown_of(alloc, script, workflow, counts)?;
+    placed(alloc, script, workflow, labels)
 }
 
 /// The text of a picture in the form that is asked for.
@@ -100,10 +150,25 @@ pub(crate) fn depict(
     marks: &[Mark],
     form: Format,
 ) -> Result<Vec<u8>, DeskStop>
-    ensures text { IfOk result (λ text. IsDepicted form (said script) workflow.now marks.now text.items) }
-    ensures stop { IfErr result (IsNotDepicted (said script) workflow.now) }
+    ensures text { IfOk result (λ text. IsDepicted form (said script) workflow.now (box_texts workflow.now) marks.now text.items) }
+    ensures stop { IfErr result (IsNotDepicted (said script) workflow.now (box_texts workflow.now)) }
 {
-    match view_of(alloc, &script, workflow) {
+    depict_with_counts(alloc, script, workflow, &[], marks, form)
+}
+
+/// The same, with how many cases passed each leaf that has a count.
+pub(crate) fn depict_with_counts(
+    alloc: Global,
+    script: Script,
+    workflow: &Workflow,
+    counts: &[u64],
+    marks: &[Mark],
+    form: Format,
+) -> Result<Vec<u8>, DeskStop>
+    ensures text { IfOk result (λ text. IsDepicted form (said script) workflow.now (counted_texts counts.now (box_texts workflow.now)) marks.now text.items) }
+    ensures stop { IfErr result (IsNotDepicted (said script) workflow.now (counted_texts counts.now (box_texts workflow.now))) }
+{
+    match view_of(alloc, &script, workflow, counts) {
         Ok(view) => {
             let Script { decls, goal, rules } = script;
             drop(decls);

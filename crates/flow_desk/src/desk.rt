@@ -1,10 +1,10 @@
 ghost use Rattle.std.specs.Prelude.{IfOk, IfErr, None, Some, option_map};
 ghost use Rattle.flow_form.specs.Names.{IsClosed};
 ghost use Rattle.flow_form.specs.Script.{said};
-ghost use Rattle.flow_desk.specs.Desk.{IsDrawn, IsNotDrawn, IsDrawnOf, IsNotDrawnOf, IsRunNotDrawn};
+ghost use Rattle.flow_desk.specs.Desk.{IsCountDrawn, IsCountDrawnOf, IsCountNotDrawn, IsCountNotDrawnOf, IsDrawn, IsNotDrawn, IsDrawnOf, IsNotDrawnOf, IsRunNotDrawn};
 ghost use Rattle.flow_front.specs.Prepared.{IsPrepared};
 
-use crate::depict::depict;
+use crate::depict::{depict, depict_with_counts};
 use crate::run_file::run_told;
 use crate::source::script_of;
 use crate::stop::{DeskStop, stopped};
@@ -30,6 +30,48 @@ pub fn drawn(
             Some(file) => draw_run(alloc, script, file, form),
         },
         Err(stop) => Err(stopped(alloc, stop, None)),
+    }
+}
+
+/// The picture of the workflow that the text says, as text in that form: the box of each leaf shows behind its label how many cases
+/// passed it, by the numbers of the leaves. A leaf that has no count shows none.
+pub fn drawn_with_counts(
+    alloc: Global,
+    text: &[u8],
+    counts: &[u64],
+    form: Format,
+) -> Result<Vec<u8>, DeskStop>
+    ensures drawn { IfOk result (λ picture. IsCountDrawn text.now counts.now form picture.items) }
+    ensures stop { IfErr result (IsCountNotDrawn text.now counts.now) }
+{
+    match script_of(alloc, text) {
+        Ok(script) => draw_counts(alloc, script, counts, form),
+        Err(stop) => Err(stopped(alloc, stop, None)),
+    }
+}
+
+/// The picture of a workflow with counts of cases.
+fn draw_counts(
+    alloc: Global,
+    script: Script,
+    counts: &[u64],
+    form: Format,
+) -> Result<Vec<u8>, DeskStop>
+    requires { IsClosed (said script) }
+    ensures drawn { IfOk result (λ picture. IsCountDrawnOf form (said script) counts.now picture.items) }
+    ensures stop { IfErr result (IsCountNotDrawnOf (said script) counts.now) }
+{
+    match expand_script(alloc, &script) {
+        Ok(workflow) => {
+            let text = depict_with_counts(alloc, script, &workflow, counts, &[], form);
+            drop(workflow);
+            text
+        }
+        Err(stop) => {
+            let stop = stopped(alloc, stop, Some(&script));
+            drop(script);
+            Err(stop)
+        }
     }
 }
 

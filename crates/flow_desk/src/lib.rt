@@ -1,6 +1,7 @@
 //! Where a run stands at each leaf of its workflow, and the picture that shows it.
 #![tactic(auto)]
 
+mod counted;
 mod depict;
 mod desk;
 mod front;
@@ -14,7 +15,7 @@ mod source;
 mod stop;
 mod told;
 
-pub use desk::drawn;
+pub use desk::{drawn, drawn_with_counts};
 pub use flow_draw::Format;
 pub use flow_model::GREATEST_INPUT;
 pub use front::read_front;

@@ -1,12 +1,10 @@
-use Rattle.std.proofs.Common.{sym, subst}
+use Rattle.std.proofs.lemmas.Result.{IfErr-weaker}
 use Rattle.flow_form.specs.Script.{said}
-use Rattle.flow_desk.specs.Desk.{AreLabels, IsNotDepicted}
+use Rattle.flow_view.specs.Texts.{box_texts}
+use Rattle.flow_desk.specs.Counted.{counted_texts}
 use Rattle.flow_desk.proofs.Depictions.{not_depicted}
 use Rattle.flow_desk.proofs.depict.view_of.Goals as goal
 
-pub returns-in-Err-clause-stop : goal.returns-in-Err-clause-stop
-returns-in-Err-clause-stop c =
-    let s = said c.args.script.now in
-    let w = c.args.workflow.now in
-    let are : AreLabels s w c.in_ok-labels.labels = record { boxes = c.in_ok-labels.ensures.boxes; captions_are = c.in_ok-labels.ensures.captions } in
-    subst (IsNotDepicted s w) (sym c.view_stop.ensures) (not_depicted s w c.in_ok-labels.labels are c.in-Err.refusal c.in-Err.ensures.refused)
+pub returns-clause-stop : goal.returns-clause-stop
+returns-clause-stop c =
+    IfErr-weaker c.placed.result _ _ (not_depicted (said c.args.script.now) c.args.workflow.now (counted_texts c.args.counts.now (box_texts c.args.workflow.now)) c.in_ok-labels.labels c.in_ok-labels.ensures) c.placed.ensures.stop
