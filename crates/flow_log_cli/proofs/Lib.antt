@@ -1,1 +1,3 @@
 pub mod JudgingLemmas
+pub mod PassingLemmas
+pub mod Places

@@ -1,2 +1,5 @@
+pub mod Journals
 pub mod Judging
+pub mod Passing
+pub mod Source
 pub mod Told

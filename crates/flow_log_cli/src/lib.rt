@@ -3,6 +3,7 @@
 
 mod journals;
 mod judge;
+mod passing;
 mod renaming;
 mod source;
 mod stop;
@@ -11,8 +12,9 @@ mod vocabulary;
 
 pub use journals::journal_of;
 pub use judge::WorkflowJudge;
+pub use passing::passing_cases;
 pub use renaming::{MapRefusal, Renaming, read_map};
 pub use source::workflow_of;
 pub use stop::LogStop;
-pub use telling::{Form, LogCall, Told, tell_log, write_answer};
+pub use telling::{Form, LogCall, Told, tell_log, tell_log_with_key, write_answer};
 pub use vocabulary::{Vocabulary, events_of_activities, labels_of};

@@ -13,7 +13,7 @@ use crate::vocabulary::{Vocabulary, events_of_activities, labels_of};
 use flow_conformance::{
     Answered, Finding, Findings, Labels, judge_all, sums_of, write_csv, write_json, write_text,
 };
-use flow_event_log::{Reading, Wanted, group, read_log};
+use flow_event_log::{NamesKey, Reading, Wanted, group, read_log_with_key};
 use flow_front::Prepared;
 use std::alloc::{AllocError, Global};
 use std::io::{self, Read, Write};
@@ -46,8 +46,14 @@ pub struct Told {
 }
 
 impl Told {
+    ghost use Rattle.std.specs.Prelude.{◌≡◌, ◌↔◌, IsTrue};
+    ghost use Rattle.flow_conformance.specs.declared.sums.Standing.TheVariants.{Deviates, Unknown, Undecided};
+    ghost use Rattle.flow_log_cli.specs.Told.{cases_of};
+
     /// Whether each case is an execution, or the begin of one.
-    pub fn fits(&self) -> bool {
+    pub fn fits(&self) -> bool
+        ensures { IsTrue result ↔ (cases_of self.now Deviates ≡ 0) × (cases_of self.now Unknown ≡ 0) × (cases_of self.now Undecided ≡ 0) }
+    {
         let sums = sums_of(&self.reading.log, &self.found);
         sums.deviates == 0 && sums.unknown == 0 && sums.undecided == 0
     }
@@ -117,9 +123,26 @@ pub fn tell_log<R: Threads + Sync, S: Read + Drop>(
     requires { IsCompiled (schema_of prepared.now.workflow) prepared.now.compiled }
     ensures { IfOk result (IsTold prepared.now.workflow) }
 {
+    let key = NamesKey::new(0, 0);
+    tell_log_with_key(rt, alloc, prepared, map, source, call, key)
+}
+
+/// The same, for a log of strangers: these are not to know the key, by which names are hashed.
+pub fn tell_log_with_key<R: Threads + Sync, S: Read + Drop>(
+    rt: &R,
+    alloc: Global,
+    prepared: &Prepared,
+    map: Option<&[u8]>,
+    source: S,
+    call: &LogCall<'_>,
+    key: NamesKey,
+) -> Result<Told, LogStop>
+    requires { IsCompiled (schema_of prepared.now.workflow) prepared.now.compiled }
+    ensures { IfOk result (IsTold prepared.now.workflow) }
+{
     let vocabulary = Vocabulary::new(alloc, &prepared.workflow)?;
     let renaming = renaming_of(alloc, map, &vocabulary)?;
-    let reading = read_log(alloc, source, &call.wanted)?;
+    let reading = read_log_with_key(alloc, source, &call.wanted, key)?;
     let events = events_of_activities(alloc, &vocabulary, &renaming, reading.log.activities())?;
     judge_reading(rt, alloc, prepared, reading, events.as_slice(), call)
 }
