@@ -7,7 +7,7 @@ use flow_workflow::{Workflow, push_leaf_label};
 use std::alloc::{AllocError, Global};
 
 /// Adds a constraint: its line and what is written there.
-pub(crate) fn push_rule(
+pub fn push_rule(
     page: &mut Page,
     text: &[u8],
     rules: &[WrittenRule],

@@ -1,10 +1,8 @@
 use crate::hint_words::hint_name;
-use crate::lines::{line_refused, lines_before, lines_of, without_divider};
 use crate::page::Page;
-use crate::policy_words::policy_place;
 use crate::rule_words::{WrittenRule, written_rules};
 use flow_excise::CompileRefusal;
-use flow_fault::{Met, fault_of, met_at, spot_of};
+use flow_fault::{Met, fault_of, spot_of};
 use flow_form::{TextRefusal, Wanted};
 use flow_front::Refused;
 use flow_policy::PolicyRefusal;
@@ -67,7 +65,7 @@ fn refusal_name(refused: &Refused) -> &'static str {
 }
 
 /// Adds a key and a text behind what stands before.
-pub(crate) fn push_text(page: &mut Page, key: &str, value: &[u8]) -> Result<(), AllocError> {
+pub fn push_text(page: &mut Page, key: &str, value: &[u8]) -> Result<(), AllocError> {
     page.words(",")?;
     page.quoted(key.as_bytes())?;
     page.words(":")?;
@@ -75,7 +73,7 @@ pub(crate) fn push_text(page: &mut Page, key: &str, value: &[u8]) -> Result<(), 
 }
 
 /// Adds a key and a number behind what stands before.
-pub(crate) fn push_number(page: &mut Page, key: &str, value: u64) -> Result<(), AllocError> {
+pub fn push_number(page: &mut Page, key: &str, value: u64) -> Result<(), AllocError> {
     page.words(",")?;
     page.quoted(key.as_bytes())?;
     page.words(":")?;
@@ -102,8 +100,8 @@ fn kind_name(wanted: Wanted) -> &'static str {
     }
 }
 
-/// Adds where a text is refused, so many lines behind others, what is met there and what may help.
-fn push_fault(
+/// Adds where a text is refused, so many lines behind others, what is met there and what may help, as members of an object.
+pub fn push_fault_members(
     page: &mut Page,
     text: &[u8],
     before: usize,
@@ -115,76 +113,36 @@ fn push_fault(
     }
     push_number(page, "line", fault.spot.line.saturating_add(before) as u64)?;
     push_number(page, "column", fault.spot.column as u64)?;
-    push_met(page, fault.met)?;
+    push_met_member(page, fault.met)?;
     match fault.hint {
         Some(hint) => push_text(page, "hint", hint_name(hint).as_bytes()),
         None => Ok(()),
     }
 }
 
-/// A refusal as an object. The second text is the one behind the workflow's that is read.
+/// A refusal as an object.
 pub(crate) fn refusal_object(
     alloc: Global,
     text: &[u8],
-    second: &[u8],
     refused: &Refused,
 ) -> Result<Vec<u8>, AllocError> {
     let mut page = Page::new(alloc);
-    page.words("{\"verdict\":\"refused\"")?;
-    push_text(&mut page, "refusal", refusal_name(refused).as_bytes())?;
-    match refused {
-        Refused::Text(refusal) => push_fault(&mut page, text, 0, refusal)?,
-        Refused::Query(refusal) => push_fault(
-            &mut page,
-            without_divider(second),
-            lines_before(second),
-            refusal,
-        )?,
-        Refused::Policy(refusal) => push_policy_fault(&mut page, second, refusal)?,
-        Refused::Record(refusal) => push_bad_line(&mut page, alloc, second, *refusal)?,
-        _ => {}
+    push_refusal(&mut page, refused)?;
+    if let Refused::Text(refusal) = refused {
+        push_fault_members(&mut page, text, 0, refusal)?;
     }
     page.words("}\n")?;
     Ok(page.into_bytes())
 }
 
-/// Adds where a policy is refused, and what is met there.
-fn push_policy_fault(
-    page: &mut Page,
-    policy: &[u8],
-    refusal: &PolicyRefusal,
-) -> Result<(), AllocError> {
-    let text = without_divider(policy);
-    let place = text.len().min(policy_place(refusal));
-    let spot = spot_of(text, place);
-    push_number(
-        page,
-        "line",
-        spot.line.saturating_add(lines_before(policy)) as u64,
-    )?;
-    push_number(page, "column", spot.column as u64)?;
-    push_met(page, met_at(text, place))
+/// Begins the object of a refusal: the verdict, and the word of the refusal.
+pub fn push_refusal(page: &mut Page, refused: &Refused) -> Result<(), AllocError> {
+    page.words("{\"verdict\":\"refused\"")?;
+    push_text(page, "refusal", refusal_name(refused).as_bytes())
 }
 
-/// Adds which line is not as it must be, from 1, and the line.
-fn push_bad_line(
-    page: &mut Page,
-    alloc: Global,
-    text: &[u8],
-    refusal: RecordRefusal,
-) -> Result<(), AllocError> {
-    let lines = lines_of(alloc, text)?;
-    match line_refused(&lines, refusal) {
-        Some(line) => {
-            push_number(page, "line", line.number as u64)?;
-            push_text(page, "text", line.text)
-        }
-        None => Ok(()),
-    }
-}
-
-/// Adds what is met.
-fn push_met(page: &mut Page, met: Met<'_>) -> Result<(), AllocError> {
+/// Adds what is met as a member of an object.
+pub fn push_met_member(page: &mut Page, met: Met<'_>) -> Result<(), AllocError> {
     match met {
         Met::Reserved(met) | Met::Name(met) | Met::Number(met) => push_text(page, "met", met),
         Met::Mark(byte) | Met::Byte(byte) => push_text(page, "met", &[byte]),
@@ -193,7 +151,7 @@ fn push_met(page: &mut Page, met: Met<'_>) -> Result<(), AllocError> {
 }
 
 /// Adds numbers between commas.
-pub(crate) fn push_numbers(page: &mut Page, numbers: &[u32]) -> Result<(), AllocError> {
+pub fn push_numbers(page: &mut Page, numbers: &[u32]) -> Result<(), AllocError> {
     let mut before = "";
     for number in numbers {
         page.words(before)?;

@@ -1,35 +1,25 @@
-//! Why, in words: what is wrong with a text, which constraints contradict each other, why lines of a session are refused and leaves
-//! wait, where a journal stops being an execution, and what is wrong with a policy or a query.
+//! Why, in words: what is wrong with a workflow's text, and which constraints contradict each other.
 #![tactic(auto)]
 
-mod asked;
 mod conflict_words;
 mod hint_words;
-mod journal;
 mod json;
 mod leaf_places;
-mod leaves;
-mod line_words;
-mod lines;
 mod page;
-mod policy_words;
-mod query;
-mod reason_json;
-mod reason_words;
 mod refusal_words;
-mod replies;
 mod rule_words;
-mod session;
 mod source;
-mod stops;
 mod telling;
 mod tokens;
 
-pub use journal::explain_journal;
+pub use conflict_words::push_rule;
+pub use json::{
+    push_fault_members, push_met_member, push_number, push_numbers, push_refusal, push_text,
+};
 pub use leaf_places::places_of_leaf;
 pub use page::Page;
-pub use query::explain_query;
-pub use session::explain_session;
+pub use refusal_words::{push_fault, push_hint, push_met, push_near_in, push_place};
+pub use rule_words::{WrittenRule, written_rules};
 pub use source::script_of;
-pub use telling::{Form, explain};
+pub use telling::{Form, explain, explain_script, explain_stop, explain_uncompiled};
 pub use tokens::symbol_at;

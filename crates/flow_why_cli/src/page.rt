@@ -25,7 +25,8 @@ impl Page {
         &mut self.text
     }
 
-    pub(crate) fn push(&mut self, piece: &[u8]) -> Result<(), AllocError> {
+    /// Adds bytes.
+    pub fn push(&mut self, piece: &[u8]) -> Result<(), AllocError> {
         self.text.extend_from_slice(piece)
     }
 
@@ -41,7 +42,7 @@ impl Page {
     }
 
     /// A byte as it can be shown in one column.
-    pub(crate) fn shown(&mut self, byte: u8) -> Result<(), AllocError> {
+    pub fn shown(&mut self, byte: u8) -> Result<(), AllocError> {
         self.push(&[match byte {
             b'\t' => b' ',
             b' '..=b'~' => byte,

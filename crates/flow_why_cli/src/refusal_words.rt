@@ -1,9 +1,6 @@
 use crate::hint_words::{hint_words, wanted_words};
 use crate::leaf_places::places_of_leaf;
-use crate::line_words::push_line_refusal;
-use crate::lines::{lines_before, without_divider};
 use crate::page::Page;
-use crate::policy_words::push_policy_refusal;
 use flow_fault::{Fault, Met, Spot, fault_of, near_name, spot_of};
 use flow_form::{Script, TextRefusal};
 use flow_front::Refused;
@@ -28,7 +25,7 @@ fn push_spot(page: &mut Page, spot: Spot<'_>) -> Result<(), AllocError> {
 }
 
 /// Adds the line of a spot, with a mark under the place. Of a long line a part is shown.
-pub(crate) fn push_marked(page: &mut Page, spot: Spot<'_>) -> Result<(), AllocError> {
+fn push_marked(page: &mut Page, spot: Spot<'_>) -> Result<(), AllocError> {
     let place = spot.column.saturating_sub(1);
     let skipped = place.saturating_sub(BEFORE);
     page.words("    ")?;
@@ -43,7 +40,7 @@ pub(crate) fn push_marked(page: &mut Page, spot: Spot<'_>) -> Result<(), AllocEr
 }
 
 /// Adds line and column of a spot in a text that stands so many lines behind others, and the line with a mark.
-pub(crate) fn push_place(page: &mut Page, spot: Spot<'_>, before: usize) -> Result<(), AllocError> {
+pub fn push_place(page: &mut Page, spot: Spot<'_>, before: usize) -> Result<(), AllocError> {
     let line = spot.line.saturating_add(before);
     push_spot(page, Spot { line, ..spot })?;
     page.words(":\n")?;
@@ -51,7 +48,7 @@ pub(crate) fn push_place(page: &mut Page, spot: Spot<'_>, before: usize) -> Resu
 }
 
 /// Adds what stands at a place.
-pub(crate) fn push_met(page: &mut Page, met: Met<'_>) -> Result<(), AllocError> {
+pub fn push_met(page: &mut Page, met: Met<'_>) -> Result<(), AllocError> {
     match met {
         Met::End => page.words("the end of the text"),
         Met::Reserved(word) => push_word(page, "the reserved word ", word),
@@ -75,7 +72,7 @@ fn push_word(page: &mut Page, what: &str, word: &[u8]) -> Result<(), AllocError>
 }
 
 /// Adds what is wrong at a place of a text that stands so many lines behind others.
-fn push_fault(
+pub fn push_fault(
     page: &mut Page,
     fault: &Fault<'_>,
     before: usize,
@@ -97,7 +94,7 @@ fn push_fault(
 }
 
 /// Adds a hint.
-pub(crate) fn push_hint(page: &mut Page, words: &str) -> Result<(), AllocError> {
+pub fn push_hint(page: &mut Page, words: &str) -> Result<(), AllocError> {
     page.words("hint: ")?;
     page.words(words)?;
     page.words("\n")
@@ -117,11 +114,7 @@ fn push_near(page: &mut Page, alloc: Global, text: &[u8], name: &[u8]) -> Result
 }
 
 /// Adds which name of the script was perhaps meant.
-pub(crate) fn push_near_in(
-    page: &mut Page,
-    script: &Script,
-    name: &[u8],
-) -> Result<(), AllocError> {
+pub fn push_near_in(page: &mut Page, script: &Script, name: &[u8]) -> Result<(), AllocError> {
     match near_name(&script.decls, name) {
         Some(near) if near.bytes() != name => {
             page.words("hint: did you mean ")?;
@@ -133,25 +126,6 @@ pub(crate) fn push_near_in(
             page,
             "a goal has declared events and sub-workflows, a constraint declared events",
         ),
-    }
-}
-
-/// Adds what is wrong where a query asks nothing.
-fn push_query_refusal(
-    page: &mut Page,
-    query: &[u8],
-    refusal: &TextRefusal,
-    script: Option<&Script>,
-) -> Result<(), AllocError> {
-    let text = without_divider(query);
-    push_fault(page, &fault_of(text, refusal), lines_before(query), refusal)?;
-    match (refusal, script) {
-        (TextRefusal::Unknown { name, .. }, Some(script)) => push_near_in(
-            page,
-            script,
-            name.bytes(),
-        ),
-        _ => Ok(()),
     }
 }
 
@@ -214,15 +188,10 @@ fn push_twice(
 pub(crate) fn words_of(
     alloc: Global,
     text: &[u8],
-    second: &[u8],
     refused: &Refused,
-    script: Option<&Script>,
 ) -> Result<Vec<u8>, AllocError> {
     let mut page = Page::new(alloc);
     match refused {
-        Refused::Query(refusal) => push_query_refusal(&mut page, second, refusal, script)?,
-        Refused::Policy(refusal) => push_policy_refusal(&mut page, second, refusal, script)?,
-        Refused::Record(refusal) => push_line_refusal(&mut page, alloc, second, *refusal)?,
         Refused::Text(refusal) => push_text_refusal(&mut page, alloc, text, refusal)?,
         Refused::Expand(ExpandRefusal::Twice(found)) => push_twice(&mut page, alloc, text, found)?,
         Refused::Expand(refusal) => push_hint(&mut page, expand_words(refusal))?,

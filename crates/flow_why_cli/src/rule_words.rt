@@ -5,11 +5,11 @@ use std::alloc::{AllocError, Global};
 
 /// A constraint as it is written.
 #[derive(Drop)]
-pub(crate) struct WrittenRule {
+pub struct WrittenRule {
     /// Where its word `constraint` stands.
-    pub(crate) place: usize,
+    pub place: usize,
     /// What stands between that word and the semicolon, with a blank between two words.
-    pub(crate) text: Vec<u8>,
+    pub text: Vec<u8>,
 }
 
 /// Adds a token behind what is written of a constraint.
@@ -25,7 +25,7 @@ fn push_token(text: &mut Vec<u8>, token: &[u8]) -> Result<(), AllocError> {
 }
 
 /// The constraints of a text, in order. Of a text that says nothing there may be none.
-pub(crate) fn written_rules(alloc: Global, text: &[u8]) -> Result<Vec<WrittenRule>, AllocError> {
+pub fn written_rules(alloc: Global, text: &[u8]) -> Result<Vec<WrittenRule>, AllocError> {
     let mut rules = Vec::new(alloc);
     let Ok(tokens) = lex(alloc, text) else {
         return Ok(rules);

@@ -42,12 +42,12 @@ pub fn explain(alloc: Global, text: &[u8], form: Form) -> Result<Output, AllocEr
             drop(script);
             output
         }
-        Err(stop) => explain_stop(alloc, part, &[], stop, None, form),
+        Err(stop) => explain_stop(alloc, part, stop, None, form),
     }
 }
 
 /// What is wrong with what a text says.
-pub(crate) fn explain_script(
+pub fn explain_script(
     alloc: Global,
     text: &[u8],
     script: &Script,
@@ -62,7 +62,7 @@ pub(crate) fn explain_script(
             drop(workflow);
             output
         }
-        Err(stop) => explain_stop(alloc, text, &[], stop, Some(script), form),
+        Err(stop) => explain_stop(alloc, text, stop, Some(script), form),
     }
 }
 
@@ -89,7 +89,7 @@ fn explain_workflow(
 }
 
 /// What is wrong with a workflow that is not compiled.
-pub(crate) fn explain_uncompiled(
+pub fn explain_uncompiled(
     alloc: Global,
     text: &[u8],
     script: &Script,
@@ -109,7 +109,7 @@ pub(crate) fn explain_uncompiled(
                 text: text?,
             })
         }
-        stop => explain_stop(alloc, text, &[], stop, Some(script), form),
+        stop => explain_stop(alloc, text, stop, Some(script), form),
     }
 }
 
@@ -144,11 +144,10 @@ fn explain_conflict(
     print_pieces(alloc, &[b"inconsistent\n", &more])
 }
 
-/// What is told of a stop. The second text is the one behind the workflow's that is read, if there is one.
-pub(crate) fn explain_stop(
+/// What is told of a stop, of a text or of its workflow.
+pub fn explain_stop(
     alloc: Global,
     text: &[u8],
-    second: &[u8],
     stop: Stop,
     script: Option<&Script>,
     form: Form,
@@ -157,7 +156,7 @@ pub(crate) fn explain_stop(
     ensures { IfOk result (λ output. IsExplainedStop (named_by script.entry) stop form output.status output.text.items) }
 {
     match stop {
-        Stop::Refused(refused) => explain_refused(alloc, text, second, refused, script, form),
+        Stop::Refused(refused) => explain_refused(alloc, text, refused, script, form),
         Stop::NoMemory => Err(AllocError),
     }
 }
@@ -166,7 +165,6 @@ pub(crate) fn explain_stop(
 fn explain_refused(
     alloc: Global,
     text: &[u8],
-    second: &[u8],
     refused: Refused,
     script: Option<&Script>,
     form: Form,
@@ -175,7 +173,7 @@ fn explain_refused(
     ensures { IfOk result (λ output. TellsFirst (named_by script.entry) refused form output.status output.text.items) }
 {
     let status = Status::of(&refused);
-    let text = refusal_text(alloc, text, second, &refused, script, form)?;
+    let text = refusal_text(alloc, text, &refused, script, form)?;
     Ok(Output { status, text })
 }
 
@@ -183,7 +181,6 @@ fn explain_refused(
 fn refusal_text(
     alloc: Global,
     text: &[u8],
-    second: &[u8],
     refused: &Refused,
     script: Option<&Script>,
     form: Form,
@@ -192,9 +189,9 @@ fn refusal_text(
     ensures { IfOk result (λ words. BeginsInWords form words.items (first_lines (named_by script.entry) refused.now)) }
 {
     if let Form::Json = form {
-        return refusal_object(alloc, text, second, refused);
+        return refusal_object(alloc, text, refused);
     }
     let told = print_refused(alloc, refused, script)?;
-    let more = words_of(alloc, text, second, refused, script)?;
+    let more = words_of(alloc, text, refused)?;
     print_pieces(alloc, &[&told, &more])
 }

@@ -1,9 +1,11 @@
-//! Rows of what is wrong with a workflow, a session, a journal, a policy or a query: the calls of `flow_why_cli` on their texts.
+//! Rows of what is wrong with a workflow, a session, a journal, a policy or a query: the calls of `flow_why_cli` and
+//! `flow_run_why_cli` on their texts.
 
 use crate::rows::Row;
 use anyhow::Result;
 use flow_front::Output;
-use flow_why_cli::{Form, explain, explain_journal, explain_query, explain_session};
+use flow_run_why_cli::{explain_journal, explain_query, explain_session};
+use flow_why_cli::{Form, explain};
 use std::alloc::Global;
 
 /// Whether a word is among those of the call.

@@ -1,0 +1,5 @@
+pub mod Parts
+pub mod Told
+pub mod Session
+pub mod Journal
+pub mod Query

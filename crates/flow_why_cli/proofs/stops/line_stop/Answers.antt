@@ -1,9 +1,0 @@
-use Rattle.std.proofs.Common.{ℕ, List, sym, subst}
-use Rattle.flow_findings.specs.Refusing.{IsTold}
-use Rattle.flow_front.specs.declared.stop.Stop.{Stop}
-use Rattle.flow_front.specs.Stop.{IsStop}
-use Rattle.flow_why_cli.proofs.Refusals.{line_is_told}
-use Rattle.flow_why_cli.proofs.stops.line_stop.Goals as goal
-
-pub returns : goal.returns
-returns c = λ events. subst (λ (s : Stop). IsStop (IsTold events) s) (sym c.from.ensures) (line_is_told events c.args.refusal)
