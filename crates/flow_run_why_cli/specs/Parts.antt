@@ -1,6 +1,6 @@
 -- The text of what stands behind a workflow, in a file of its own.
 use Rattle.std.specs.Prelude.{ℕ, Bool, nat_eq, List, length, drop, take, if◌then◌else◌, codes}
-use Rattle.std.specs.List.{pointwise}
+use Rattle.std.specs.Cmp.Lexicographic.{pointwise}
 
 abbrev begins_with : List ℕ → List ℕ → Bool
 begins_with text line = pointwise nat_eq (take (length line) text) line

@@ -6,7 +6,7 @@ ghost use Rattle.flow_workflow.specs.Definition.{schema_of};
 ghost use Rattle.flow_plan.specs.Compilation.{IsCompiled};
 ghost use Rattle.flow_findings.specs.Judging.{checked_text};
 ghost use Rattle.flow_trace.specs.declared.checked.Checked.{Checked};
-ghost use Rattle.flow_trace.specs.declared.checked.Checked.TheVariants.{Bad};
+ghost use Rattle.flow_trace.specs.declared.checked.Checked.TheVariants as variants;
 ghost use Rattle.flow_trace.specs.Traces.{TellsOfTrace};
 ghost use Rattle.flow_why_cli.specs.Explained.{BeginsInWords};
 ghost use Rattle.flow_run_why_cli.specs.Parts.{part_of};
@@ -135,7 +135,7 @@ fn bad_text(
     form: Form,
 ) -> Result<Vec<u8>, AllocError>
     requires { core.old.history ≡ [] }
-    ensures { IfOk result (λ words. BeginsInWords form words.items (checked_text (Bad place))) }
+    ensures { IfOk result (λ words. BeginsInWords form words.items (checked_text (variants.Bad place))) }
 {
     let bad = why_bad(alloc, core, leaves, place as usize)?;
     if let Form::Json = form {
