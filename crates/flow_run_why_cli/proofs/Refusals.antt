@@ -86,7 +86,7 @@ module _ (s : Said) where
 
   pub drives_tellable : (text : List ℕ) (why : Refused) → DrivesText s text (Err why) → IsTellable why
   drives_tellable text = each_refusal (the_session text) (λ lines. session_of text ≡ commands lines) (DrivesSaid s) IsTellable (session_tellable text)
-      (λ lines why is. prepares_tellable (λ w c. DrivesWorkflow w lines) (λ w c why (last, (is, none)). no_refusal (IsTellable why) (answer_of last) why none) why)
+      (λ lines why is. prepares_tellable (λ w c. DrivesWorkflow w lines) (λ w c why (last, is, none). no_refusal (IsTellable why) (answer_of last) why none) why)
 
   lines_tellable : (text : List ℕ) (a : Assigned) (why : Refused) → DutyLines s text a (Err why) → IsTellable why
   lines_tellable text a = each_refusal (the_duties text) (λ lines. duties_of text ≡ commands lines) (DutySaid s a) IsTellable (duties_tellable text)

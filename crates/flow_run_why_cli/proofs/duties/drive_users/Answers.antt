@@ -9,4 +9,4 @@ pub returns : goal.returns
 returns c =
     let begun = c.new-desk.ensures ∙ ap {B = Desked} (λ (r : Run). record { run = r; assigned = c.args.policy }) c.in-Ok.ensures in
     IfOk-weaker c.drive_desk-output.result _ _
-    (λ output found. (found.0, subst (λ (d : Desked). IsDrivenByUsers d c.args.duties.now found.0) begun found.1.0, found.1.1)) c.drive_desk-output.ensures
+    (λ output found. (found.0, subst (λ (d : Desked). IsDrivenByUsers d c.args.duties.now found.0) begun found.1, found.2)) c.drive_desk-output.ensures

@@ -12,6 +12,6 @@ pub returns : goal.returns
 returns c =
     let s = said c.args.script.now in
     let policy = c.args.policy.now in
-    short_policy c.args.form s policy c.args.session.now c.duty_lines.result (let e = c.if-GREATEST_INPUT.false in omega arith)
+    short_policy c.args.form s policy c.args.session.now c.duty_lines.result (let e = c.if-policy-gt-GREATEST_INPUT.false in omega arith)
     (goes_on (IsOutputOf c.args.form) (the_policy s policy) (IsPolicyOf policy s) (DutyLines s c.args.session.now) c.in_ok-read.read c.duty_lines.result c.in_ok-read.ensures.ok
     c.duty_lines.ensures)

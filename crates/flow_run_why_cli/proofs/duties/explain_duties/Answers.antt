@@ -9,8 +9,8 @@ use Rattle.flow_run_why_cli.proofs.Refusals.{duty_tellable}
 use Rattle.flow_run_why_cli.proofs.Telling.{stop_told, stopped, came}
 use Rattle.flow_run_why_cli.proofs.duties.explain_duties.Goals as goal
 
-pub tell_duty_stop-requires-in-Err-clause-told : goal.tell_duty_stop-requires-in-Err-clause-told
-tell_duty_stop-requires-in-Err-clause-told c =
+pub tell_duty_stop-requires-clause-told : goal.tell_duty_stop-requires-clause-told
+tell_duty_stop-requires-clause-told c =
     let s = said c.args.script.now in
     let who = c.without_divider-who.result.now in
     let part = c.without_divider-part.result.now in
@@ -24,8 +24,8 @@ returns-in-Ok c =
     (subst (λ (part : List ℕ). Told c.without_divider-who.result.now part) c.without_divider-part.ensures
     (came c.args.form (event_names s.decls) (DutyText s c.without_divider-who.result.now c.without_divider-part.result.now) c.in-Ok.output c.in-Ok.ensures))
 
-pub returns-in-Err : goal.returns-in-Err
-returns-in-Err c =
+pub returns : goal.returns
+returns c =
     let s = said c.args.script.now in
     let Told : List ℕ → List ℕ → Type 0 = λ who part.
     IfOk c.tell_duty_stop.result (λ output. IsToldOf (event_names s.decls) (DutyText s who part) c.args.form output.status output.text.items) in

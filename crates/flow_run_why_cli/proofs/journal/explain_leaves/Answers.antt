@@ -9,8 +9,8 @@ use Rattle.flow_run_why_cli.proofs.Refusals.{traces_tellable}
 use Rattle.flow_run_why_cli.proofs.Telling.{stop_told, stopped, came}
 use Rattle.flow_run_why_cli.proofs.journal.explain_leaves.Goals as goal
 
-pub tell_stop-requires-in-Err-clause-told : goal.tell_stop-requires-in-Err-clause-told
-tell_stop-requires-in-Err-clause-told c =
+pub tell_stop-requires-clause-told : goal.tell_stop-requires-clause-told
+tell_stop-requires-clause-told c =
     let s = said c.args.script.now in
     let part = c.without_divider-part.result.now in
     stop_told c.args.form (event_names s.decls) (TracesText part s) c.in-Err.stop (traces_tellable s part) c.in-Err.ensures
@@ -21,8 +21,8 @@ returns-in-Ok c =
     subst (λ (part : List ℕ). IsToldOf (event_names s.decls) (TracesText part s) c.args.form c.in-Ok.output.status c.in-Ok.output.text.items) c.without_divider-part.ensures
     (came c.args.form (event_names s.decls) (TracesText c.without_divider-part.result.now s) c.in-Ok.output c.in-Ok.ensures)
 
-pub returns-in-Err : goal.returns-in-Err
-returns-in-Err c =
+pub returns : goal.returns
+returns c =
     let s = said c.args.script.now in
     subst (λ (part : List ℕ). IfOk c.tell_stop.result (λ output. IsToldOf (event_names s.decls) (TracesText part s) c.args.form output.status output.text.items))
     c.without_divider-part.ensures

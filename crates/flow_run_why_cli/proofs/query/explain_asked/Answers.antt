@@ -9,8 +9,8 @@ use Rattle.flow_run_why_cli.proofs.Refusals.{verifies_tellable}
 use Rattle.flow_run_why_cli.proofs.Telling.{stop_told, stopped, came}
 use Rattle.flow_run_why_cli.proofs.query.explain_asked.Goals as goal
 
-pub tell_stop-requires-in-Err-clause-told : goal.tell_stop-requires-in-Err-clause-told
-tell_stop-requires-in-Err-clause-told c =
+pub tell_stop-requires-clause-told : goal.tell_stop-requires-clause-told
+tell_stop-requires-clause-told c =
     let s = said c.args.script.now in
     let part = c.without_divider-part.result.now in
     stop_told c.args.form (event_names s.decls) (VerifiesText part s) c.in-Err.stop (verifies_tellable s part) c.in-Err.ensures
