@@ -218,6 +218,8 @@ class Document:
         for command, lines, written in zip(commands, shown, run_shell(commands, self.programs)):
             if not is_alike(lines, written):
                 self.fault(block, f"`{command}`: {first_difference(lines, written)}")
+            if any(line.endswith(": command not found") for line in written):
+                self.fault(block, f"`{command}`: a command that is not found")
 
     def take_piece(self, block):
         """A part of a text of this document or of the examples."""
