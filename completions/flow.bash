@@ -83,7 +83,7 @@ _flowdesk() {
             [[ ${COMP_WORDS[1]} == log ]] && forms="text csv json"
             mapfile -t COMPREPLY < <(compgen -W "$forms" -- "$word") && return
             ;;
-        --journal | --workflow | --policy | --map | --journals | --session | --query) _flow_files "$word" && return ;;
+        --journal | --log | --workflow | --policy | --map | --journals | --session | --query) _flow_files "$word" && return ;;
     esac
     if [[ $COMP_CWORD -eq 1 ]]; then
         local cases="new take done fail do rewind commit tidy todo why history undone facts report verify open"
@@ -99,7 +99,7 @@ _flowdesk() {
     elif [[ $word == -* && ${COMP_WORDS[1]} == log ]]; then
         mapfile -t COMPREPLY < <(compgen -W "$(_flow_unused --workflow --case --activity --time --map --form --journals --jobs --budget)" -- "$word")
     elif [[ $word == -* ]]; then
-        mapfile -t COMPREPLY < <(compgen -W "$(_flow_unused --journal --form)" -- "$word")
+        mapfile -t COMPREPLY < <(compgen -W "$(_flow_unused --journal --log --case --activity --time --map --form)" -- "$word")
     else
         _flow_files "$word"
     fi

@@ -6,15 +6,17 @@ use crate::{DISK, WORDS, WRITE_FAULT, read, unread, write};
 use clap::builder::ValueParser;
 use clap::{Arg, ArgAction, ArgMatches, Command};
 use flow_desk::GREATEST_INPUT;
-use flow_event_log::{Column, LogFault, LogRefusal, Wanted};
+use flow_event_log::{Column, LogFault, LogRefusal, NamesKey, Wanted};
 use flow_front::Prepared;
 use flow_log_cli::{
-    Form, LogCall, LogStop, MapRefusal, Told, journal_of, tell_log, workflow_of, write_answer,
+    Form, LogCall, LogStop, MapRefusal, Told, journal_of, tell_log_with_key, workflow_of,
+    write_answer,
 };
 use flow_why_cli::{Form as ExplainForm, explain};
 use std::alloc::{AllocError, Global};
 use std::fs::{self, File};
 use std::io;
+use std::random::RandomSource;
 use std::rt::Files;
 use std::thread::Threads;
 
@@ -27,9 +29,9 @@ const DEVIATES: u8 = 1;
 /// How many threads there are at most, and how many states one search makes where nothing is asked.
 const MOST_JOBS: u32 = 64;
 
-const USUAL_JOBS: u32 = 4;
+pub(crate) const USUAL_JOBS: u32 = 4;
 
-const USUAL_BUDGET: u32 = 100_000;
+pub(crate) const USUAL_BUDGET: u32 = 100_000;
 
 /// A word that takes a value.
 pub(crate) fn option<'a>(alloc: Global, name: &'a str, value: &'a str, help: &'a str) -> Arg<'a> {
@@ -40,23 +42,12 @@ pub(crate) fn option<'a>(alloc: Global, name: &'a str, value: &'a str, help: &'a
         .action(ArgAction::Set)
 }
 
-/// The words that ask which cases of a log keep to a workflow.
-pub(crate) fn log_command<'a>(alloc: Global) -> Result<Command<'a>, AllocError> {
-    let log = Arg::new(alloc, "log")
-        .value_name("LOG")
-        .help("a CSV file; its first row names the columns, and each other row is an event")
-        .required(true)
-        .action(ArgAction::Set);
-    let workflow = option(alloc, "workflow", "FILE", "the text of the workflow").required(true);
-    let form = option(alloc, "form", "FORM", "how the answer is written")
-        .value_parser(ValueParser::Names(&["text", "csv", "json"]))
-        .default_value("text");
-    Command::new(alloc, "log")
-        .about(
-            "Tells which cases of an event log keep to a workflow, and where each other one leaves it",
-        )
-        .arg(log)?
-        .arg(workflow)?
+/// The words that say how the rows of a log are read.
+pub(crate) fn with_columns<'a>(
+    alloc: Global,
+    command: Command<'a>,
+) -> Result<Command<'a>, AllocError> {
+    command
         .arg(option(alloc, "case", "COLUMN", "the column of the case"))?
         .arg(option(alloc, "activity", "COLUMN", "the column of the activity"))?
         .arg(option(
@@ -70,7 +61,27 @@ pub(crate) fn log_command<'a>(alloc: Global) -> Result<Command<'a>, AllocError> 
             "map",
             "PATH",
             "a CSV of two columns: an activity of the log, and the event that it stands for",
-        ))?
+        ))
+}
+
+/// The words that ask which cases of a log keep to a workflow.
+pub(crate) fn log_command<'a>(alloc: Global) -> Result<Command<'a>, AllocError> {
+    let log = Arg::new(alloc, "log")
+        .value_name("LOG")
+        .help("a CSV file; its first row names the columns, and each other row is an event")
+        .required(true)
+        .action(ArgAction::Set);
+    let workflow = option(alloc, "workflow", "FILE", "the text of the workflow").required(true);
+    let form = option(alloc, "form", "FORM", "how the answer is written")
+        .value_parser(ValueParser::Names(&["text", "csv", "json"]))
+        .default_value("text");
+    let command = Command::new(alloc, "log")
+        .about(
+            "Tells which cases of an event log keep to a workflow, and where each other one leaves it",
+        )
+        .arg(log)?
+        .arg(workflow)?;
+    with_columns(alloc, command)?
         .arg(form)?
         .arg(option(
             alloc,
@@ -92,15 +103,22 @@ pub(crate) fn log_command<'a>(alloc: Global) -> Result<Command<'a>, AllocError> 
         ))
 }
 
+/// A log that is to be read.
+#[derive(Clone, Copy)]
+pub(crate) struct Source<'a> {
+    log: &'a str,
+    map: Option<&'a str>,
+    call: LogCall<'a>,
+    key: NamesKey,
+}
+
 /// The words of a call.
 #[derive(Clone, Copy)]
 struct Words<'a> {
-    log: &'a str,
+    source: Source<'a>,
     workflow: &'a str,
-    map: Option<&'a str>,
     journals: Option<&'a str>,
     form: Form,
-    call: LogCall<'a>,
 }
 
 /// A number within its bounds, or nothing where the word is none.
@@ -114,28 +132,52 @@ fn number_in(word: Option<&str>, usual: u32, most: u32) -> Option<u32> {
     }
 }
 
-/// What the words ask for.
-fn words_in<'a>(matches: &ArgMatches<'a>) -> Option<Words<'a>> {
-    let form = match matches.get_str("form") {
-        Some("csv") => Form::Csv,
-        Some("json") => Form::Json,
-        _ => Form::Text,
-    };
-    Some(Words {
+/// A key that nobody knows: names of a log are hashed by it.
+fn key_of(rt: &impl RandomSource) -> io::Result<NamesKey> {
+    let mut first = [0u8; 8];
+    let mut second = [0u8; 8];
+    rt.fill_bytes(&mut first)?;
+    rt.fill_bytes(&mut second)?;
+    Ok(NamesKey::new(u64::from_le_bytes(first), u64::from_le_bytes(second)))
+}
+
+/// The log that the words name, and how it is read.
+pub(crate) fn source_in<'a>(
+    matches: &ArgMatches<'a>,
+    jobs: u32,
+    budget: u32,
+    key: NamesKey,
+) -> Option<Source<'a>> {
+    Some(Source {
         log: matches.get_str("log")?,
-        workflow: matches.get_str("workflow")?,
         map: matches.get_str("map"),
-        journals: matches.get_str("journals"),
-        form,
         call: LogCall {
             wanted: Wanted {
                 case: matches.get_str("case"),
                 activity: matches.get_str("activity"),
                 time: matches.get_str("time"),
             },
-            jobs: number_in(matches.get_str("jobs"), USUAL_JOBS, MOST_JOBS)?,
-            budget: number_in(matches.get_str("budget"), USUAL_BUDGET, u32::MAX)?,
+            jobs,
+            budget,
         },
+        key,
+    })
+}
+
+/// What the words ask for.
+fn words_in<'a>(matches: &ArgMatches<'a>, key: NamesKey) -> Option<Words<'a>> {
+    let form = match matches.get_str("form") {
+        Some("csv") => Form::Csv,
+        Some("json") => Form::Json,
+        _ => Form::Text,
+    };
+    let jobs = number_in(matches.get_str("jobs"), USUAL_JOBS, MOST_JOBS)?;
+    let budget = number_in(matches.get_str("budget"), USUAL_BUDGET, u32::MAX)?;
+    Some(Words {
+        source: source_in(matches, jobs, budget, key)?,
+        workflow: matches.get_str("workflow")?,
+        journals: matches.get_str("journals"),
+        form,
     })
 }
 
@@ -181,9 +223,9 @@ fn tell_refusal(rt: &impl Eprint, log: &str, refusal: &LogRefusal) -> u8 {
 }
 
 /// Writes why nothing is told, and gives the status.
-fn tell_stop(rt: &impl Eprint, words: &Words<'_>, stop: LogStop) -> u8 {
-    let map = words.map.unwrap_or("");
-    let log = words.log;
+fn tell_stop(rt: &impl Eprint, source: &Source<'_>, stop: LogStop) -> u8 {
+    let map = source.map.unwrap_or("");
+    let log = source.log;
     match stop {
         LogStop::Map(MapRefusal::NoPair { line }) => {
             let _ = eprintln!(rt; "{map}:{line}: refused: a row has an activity and an event");
@@ -255,7 +297,7 @@ fn answer<R: Files<File = File> + AllocGlobal + Print + Eprint>(
         return WRITE_FAULT;
     }
     if let Some(folder) = words.journals {
-        let status = write_journals(rt, folder, text, prepared, words.call.budget, told);
+        let status = write_journals(rt, folder, text, prepared, words.source.call.budget, told);
         if status != 0 {
             return status;
         }
@@ -274,6 +316,40 @@ fn read_map_file<R: Files<File = File> + AllocGlobal>(
     }
 }
 
+/// What is told of the log's cases; else the status, when it is said why.
+pub(crate) fn told_of<R: Files<File = File> + AllocGlobal + Eprint + Threads + Sync>(
+    rt: &R,
+    source: &Source<'_>,
+    prepared: &Prepared,
+) -> Result<Told, u8>
+    requires { IsCompiled (schema_of prepared.now.workflow) prepared.now.compiled }
+{
+    let map = match read_map_file(rt, source.map) {
+        Ok(map) => map,
+        Err(error) => return Err(unread(rt, source.map.unwrap_or(""), error)),
+    };
+    let file = match File::open(rt, source.log) {
+        Ok(file) => file,
+        Err(error) => return Err(unread(rt, source.log, error)),
+    };
+    let bytes = match &map {
+        Some(map) => Some(map.as_slice()),
+        None => None,
+    };
+    match tell_log_with_key(
+        rt,
+        rt.alloc(),
+        prepared,
+        bytes,
+        file,
+        &source.call,
+        source.key,
+    ) {
+        Ok(told) => Ok(told),
+        Err(stop) => Err(tell_stop(rt, source, stop)),
+    }
+}
+
 /// Tells of the log's cases what they are of the workflow, and gives the status.
 fn tell_cases<R: Files<File = File> + AllocGlobal + Print + Eprint + Threads + Sync>(
     rt: &R,
@@ -283,30 +359,43 @@ fn tell_cases<R: Files<File = File> + AllocGlobal + Print + Eprint + Threads + S
 ) -> u8
     requires { IsCompiled (schema_of prepared.now.workflow) prepared.now.compiled }
 {
-    let map = match read_map_file(rt, words.map) {
-        Ok(map) => map,
-        Err(error) => return unread(rt, words.map.unwrap_or(""), error),
-    };
-    let file = match File::open(rt, words.log) {
-        Ok(file) => file,
-        Err(error) => return unread(rt, words.log, error),
-    };
-    let bytes = match &map {
-        Some(map) => Some(map.as_slice()),
-        None => None,
-    };
-    match tell_log(rt, rt.alloc(), prepared, bytes, file, &words.call) {
+    match told_of(rt, &words.source, prepared) {
         Ok(told) => answer(rt, words, text, prepared, &told),
-        Err(stop) => tell_stop(rt, words, stop),
+        Err(status) => status,
+    }
+}
+
+/// Tells what is wrong with a workflow, and gives the status.
+pub(crate) fn tell_workflow(rt: &(impl AllocGlobal + Print + Eprint), text: &[u8]) -> u8 {
+    match explain(rt.alloc(), text, ExplainForm::Words) {
+        Ok(output) => {
+            let status = output.status.code();
+            match write(rt, &output.text) {
+                0 => status,
+                fault => fault,
+            }
+        }
+        Err(AllocError) => NO_MEMORY,
+    }
+}
+
+/// A key for a call; else the status, when it is said why there is none.
+pub(crate) fn drawn_key(rt: &(impl RandomSource + Eprint)) -> Result<NamesKey, u8> {
+    match key_of(rt) {
+        Ok(key) => Ok(key),
+        Err(error) => Err(unread(rt, "flowdesk: random numbers", error)),
     }
 }
 
 /// Tells which cases of the log that the words name keep to the workflow, and gives the status.
-pub(crate) fn log_file<R: Files<File = File> + AllocGlobal + Print + Eprint + Threads + Sync>(
-    rt: &R,
-    matches: &ArgMatches<'_>,
-) -> u8 {
-    let Some(words) = words_in(matches) else {
+pub(crate) fn log_file<
+    R: Files<File = File> + RandomSource + AllocGlobal + Print + Eprint + Threads + Sync,
+>(rt: &R, matches: &ArgMatches<'_>) -> u8 {
+    let key = match drawn_key(rt) {
+        Ok(key) => key,
+        Err(status) => return status,
+    };
+    let Some(words) = words_in(matches, key) else {
         let _ = eprintln!(rt; "flowdesk log: --jobs is 1 to {MOST_JOBS}, --budget is 1 or more");
         return WORDS;
     };
@@ -316,15 +405,6 @@ pub(crate) fn log_file<R: Files<File = File> + AllocGlobal + Print + Eprint + Th
     };
     match workflow_of(rt.alloc(), &text) {
         Ok(prepared) => tell_cases(rt, &words, &text, &prepared),
-        Err(_) => match explain(rt.alloc(), &text, ExplainForm::Words) {
-            Ok(output) => {
-                let status = output.status.code();
-                match write(rt, &output.text) {
-                    0 => status,
-                    fault => fault,
-                }
-            }
-            Err(AllocError) => NO_MEMORY,
-        },
+        Err(_) => tell_workflow(rt, &text),
     }
 }

@@ -11,6 +11,7 @@ mod case_new;
 mod case_whole;
 mod case_words;
 mod cases;
+mod counted;
 mod explained;
 mod linted;
 mod logged;
@@ -23,6 +24,7 @@ use case_new::make;
 use case_whole::verify;
 use case_words::is_case_command;
 use cases::ask_case;
+use counted::draw_log;
 use explained::explain_file;
 use flow_desk::{GREATEST_INPUT, GREATEST_RUN, drawn, read_front};
 use linted::lint_file;
@@ -33,6 +35,7 @@ use std::env;
 use std::fs::{self, File};
 use std::io::{self, IsTerminal, Write};
 use std::process::ExitCode;
+use std::random::RandomSource;
 use std::rt::{Env, Files};
 use std::thread::Threads;
 use std::time::Clock;
@@ -138,7 +141,16 @@ fn draw_file<R: Files<File = File> + AllocGlobal + Print + Eprint>(rt: &R, call:
 
 /// Reads the words, does what they ask for, and gives the status.
 fn desk<
-    R: Files<File = File> + Env + Clock + Input + AllocGlobal + Print + Eprint + Threads + Sync,
+    R: Files<File = File>
+        + Env
+        + Clock
+        + Input
+        + RandomSource
+        + AllocGlobal
+        + Print
+        + Eprint
+        + Threads
+        + Sync,
 >(rt: &R, at_terminal: bool) -> u8 {
     let Ok(words) = words_given(rt) else {
         return NO_MEMORY;
@@ -151,6 +163,9 @@ fn desk<
             Some((name, words)) if name == "explain" => explain_file(rt, words),
             Some((name, words)) if name == "lint" => lint_file(rt, words),
             Some((name, words)) if name == "log" => log_file(rt, words),
+            Some((name, words)) if name == "draw" && words.get_str("log").is_some() => {
+                draw_log(rt, words)
+            }
             Some((name, words)) if name == "new" => make(rt, words),
             Some((name, words)) if name == "verify" => verify(rt, words),
             Some((name, words)) if name == "open" => dialogue(rt, words, rt.reader(), at_terminal),

@@ -1,7 +1,7 @@
 use crate::case_words::with_cases;
 use crate::explained::explain_command;
 use crate::linted::lint_command;
-use crate::logged::log_command;
+use crate::logged::{log_command, with_columns};
 use clap::builder::ValueParser;
 use clap::{Arg, ArgAction, ArgMatches, Command};
 use flow_desk::Format;
@@ -55,15 +55,23 @@ fn draw_command<'a>(alloc: Global) -> Result<Command<'a>, AllocError> {
         .action(ArgAction::Set)
         .value_parser(ValueParser::Names(&["svg", "mermaid", "dot"]))
         .default_value("svg");
-    Command::new(alloc, "draw")
+    let log = Arg::new(alloc, "log")
+        .long("log")
+        .value_name("LOG")
+        .help("an event log, a CSV file: shows how many of its cases passed each box")
+        .conflicts_with("journal")?
+        .action(ArgAction::Set);
+    let command = Command::new(alloc, "draw")
         .about("Draws a workflow, and where a run of it stands")
         .arg(file)?
         .arg(journal)?
-        .arg(form)
+        .arg(log)?
+        .arg(form)?;
+    with_columns(alloc, command)
 }
 
 /// The form of that name.
-fn form_called(name: Option<&str>) -> Format {
+pub(crate) fn form_called(name: Option<&str>) -> Format {
     match name {
         Some("mermaid") => Format::Mermaid,
         Some("dot") => Format::Dot,
