@@ -87,7 +87,9 @@ _flowdesk() {
     esac
     if [[ $COMP_CWORD -eq 1 ]]; then
         local cases="new take done fail do rewind commit tidy todo why history undone facts report verify open"
-        mapfile -t COMPREPLY < <(compgen -W "draw explain lint log $cases --help --version" -- "$word")
+        mapfile -t COMPREPLY < <(compgen -W "draw explain lint log page $cases --help --version" -- "$word")
+    elif [[ $word == -* && ${COMP_WORDS[1]} == page ]]; then
+        mapfile -t COMPREPLY < <(compgen -W "$(_flow_unused --at --wait)" -- "$word")
     elif [[ $word == -* && ${COMP_WORDS[1]} == new ]]; then
         mapfile -t COMPREPLY < <(compgen -W "$(_flow_unused --workflow --policy --tidy)" -- "$word")
     elif [[ $word == -* && ${COMP_WORDS[1]} != draw && ${COMP_WORDS[1]} != explain && ${COMP_WORDS[1]} != lint && ${COMP_WORDS[1]} != log ]]; then

@@ -16,6 +16,7 @@ mod explained;
 mod linted;
 mod logged;
 mod message;
+mod paged;
 mod words;
 
 use case_dialogue::dialogue;
@@ -30,6 +31,7 @@ use flow_desk::{GREATEST_INPUT, GREATEST_RUN, drawn, read_front};
 use linted::lint_file;
 use logged::log_file;
 use message::{NO_MEMORY, tell};
+use paged::write_page;
 use std::alloc::AllocError;
 use std::env;
 use std::fs::{self, File};
@@ -167,6 +169,7 @@ fn desk<
                 draw_log(rt, words)
             }
             Some((name, words)) if name == "new" => make(rt, words),
+            Some((name, words)) if name == "page" => write_page(rt, words),
             Some((name, words)) if name == "verify" => verify(rt, words),
             Some((name, words)) if name == "open" => dialogue(rt, words, rt.reader(), at_terminal),
             Some((name, words)) if is_case_command(name) => ask_case(rt, name, words),

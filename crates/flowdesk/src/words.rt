@@ -2,6 +2,7 @@ use crate::case_words::with_cases;
 use crate::explained::explain_command;
 use crate::linted::lint_command;
 use crate::logged::{log_command, with_columns};
+use crate::paged::page_command;
 use clap::builder::ValueParser;
 use clap::{Arg, ArgAction, ArgMatches, Command};
 use flow_desk::Format;
@@ -23,6 +24,7 @@ pub(crate) fn desk_command<'a>(alloc: Global) -> Result<Command<'a>, AllocError>
     let explain = explain_command(alloc)?;
     let lint = lint_command(alloc)?;
     let log = log_command(alloc)?;
+    let page = page_command(alloc)?;
     let command = Command::new(alloc, "flowdesk")
         .version("1")
         .about("Shows workflows of flow, and drives cases by names")
@@ -30,7 +32,8 @@ pub(crate) fn desk_command<'a>(alloc: Global) -> Result<Command<'a>, AllocError>
         .subcommand(draw)?
         .subcommand(explain)?
         .subcommand(lint)?
-        .subcommand(log)?;
+        .subcommand(log)?
+        .subcommand(page)?;
     with_cases(alloc, command)
 }
 

@@ -1,0 +1,108 @@
+//! The page of a case.
+
+use crate::case_faults::tell_folder;
+use crate::cases::{FileCase, opened, stamp, wait_in};
+use crate::logged::option;
+use crate::message::tell;
+use crate::{NO_MEMORY, write};
+use clap::{Arg, ArgAction, ArgMatches, Command};
+use flow_case_book::Asker;
+use flow_case_files::read_case;
+use flow_case_page::{CaseShown, case_page};
+use flow_case_talk::Form;
+use flow_desk::{Format, drawn};
+use flow_page::print_page;
+use std::alloc::{AllocError, Global};
+use std::fs::File;
+use std::rt::Files;
+use std::time::Clock;
+
+/// The words that ask for the page of a case.
+pub(crate) fn page_command<'a>(alloc: Global) -> Result<Command<'a>, AllocError> {
+    let case = Arg::new(alloc, "case")
+        .value_name("CASE")
+        .help("the folder of the case")
+        .required(true)
+        .action(ArgAction::Set);
+    Command::new(alloc, "page")
+        .about(
+            "Writes the page of a case as HTML: what may be begun, what is out, its picture and history",
+        )
+        .arg(case)?
+        .arg(option(alloc, "at", "TIME", "when; without it the system's time"))?
+        .arg(option(
+            alloc,
+            "wait",
+            "SECONDS",
+            "how long to wait for another command on the case; 5 without it",
+        ))
+}
+
+/// Writes the page of a case, and gives the status.
+pub(crate) fn write_page<R: Files<File = File> + Clock + AllocGlobal + Print + Eprint>(
+    rt: &R,
+    words: &ArgMatches<'_>,
+) -> u8 {
+    let case = words.get_str("case").unwrap_or("");
+    let Ok(now) = stamp(rt) else {
+        return NO_MEMORY;
+    };
+    let at = words.get_str("at").unwrap_or(now.as_str());
+    let text = match read_case(rt, case) {
+        Ok(texts) => texts.workflow,
+        Err(fault) => return tell_folder(rt, case, fault),
+    };
+    match opened(rt, case, wait_in(words), at) {
+        Ok(mut book) => {
+            let status = show(rt, &mut book, case, &text, at);
+            drop(book);
+            status
+        }
+        Err(status) => status,
+    }
+}
+
+/// Writes the page of a case that is open.
+fn show<'a, R: Files<File = File> + AllocGlobal + Print + Eprint>(
+    rt: &R,
+    book: &mut FileCase<'a, R>,
+    case: &str,
+    text: &[u8],
+    at: &str,
+) -> u8 {
+    let asker = Asker {
+        name: "",
+        at,
+        note: "",
+    };
+    let Ok(report) = book.reply(asker, b"report", Form::Words) else {
+        return NO_MEMORY;
+    };
+    let picture = match drawn(rt.alloc(), text, Some(&report.text), Format::Svg) {
+        Ok(picture) => picture,
+        Err(stop) => return tell(rt, case, text, case, &stop),
+    };
+    match printed(rt.alloc(), book, text, picture, at) {
+        Ok(page) => write(rt, &page),
+        Err(AllocError) => NO_MEMORY,
+    }
+}
+
+/// The page of a case, as HTML.
+fn printed<'a, R: Files<File = File>>(
+    alloc: Global,
+    book: &mut FileCase<'a, R>,
+    workflow: &[u8],
+    picture: Vec<u8>,
+    at: &str,
+) -> Result<Vec<u8>, AllocError> {
+    let seal = book.seal(alloc)?;
+    let shown = CaseShown {
+        workflow,
+        picture,
+        seal: seal.as_str(),
+        at,
+    };
+    let page = case_page(alloc, book, shown)?;
+    print_page(alloc, &page)
+}
