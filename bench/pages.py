@@ -27,7 +27,7 @@ CASES = ["back_office", "loan", "order_desk", "laboratory", "incident"]
 NOTES = ["", "by phone", "<script>alert(1)</script>", "\"quotes\" & 'others'", "</td></table></body>", "&amp; is no &lt;", "a\nline feed", "<!-- "]
 USERS = ["ann", "bob <b>", "o'neil & sons", "\"cid\""]
 NOW = "2026-11-30T14:02:11Z"
-EMPTY = {"meta", "rect", "path", "circle", "br"}
+EMPTY = {"meta", "br"}
 # What tidy says of the style that an SVG has of its own.
 USUAL = "moved <style> tag to <head>"
 
