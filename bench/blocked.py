@@ -67,11 +67,19 @@ class Judge:
             return "false"
         if any(self.apart(other) for other in run.journal):
             return "other_side"
+        if self.is_given_up():
+            return "given_up"
         if not self.next:
             return "waits"
         if not any(self.meets(trace, rules) for trace in self.next):
             return "waits_by_constraints"
-        return "given_up" if self.could(run.leaves_out()) else "claims"
+        return "barred" if self.could(run.leaves_out()) else "claims"
+
+    def is_given_up(self):
+        """Whether no free trace has it, and without the bans some good trace that begins with the journal has it."""
+        banned, rules = {leaf for _, leaf in self.run.bans}, range(len(self.model.rules))
+        good = [trace for trace in self.having if self.meets(trace, rules)]
+        return bool(good) and all(banned & set(trace) for trace in good)
 
     def apart(self, other):
         return self.are_apart(self.leaf, other)

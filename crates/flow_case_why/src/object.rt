@@ -47,11 +47,12 @@ fn reason_word(reason: &Reason) -> &'static str {
         Reason::Out { .. } => "out",
         Reason::False { .. } => "false",
         Reason::OtherSide { .. } => "other_side",
+        Reason::GivenUp => "given_up",
         Reason::Waits { .. } => "waits",
         Reason::Isolated { .. } => "isolated",
         Reason::WaitsByConstraints { .. } => "waits_by_constraints",
         Reason::Claims { .. } => "claims",
-        Reason::GivenUp => "given_up",
+        Reason::Barred => "barred",
         Reason::Other => "other",
     }
 }

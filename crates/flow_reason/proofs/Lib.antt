@@ -7,3 +7,5 @@ pub mod SideSteps
 pub mod InTheWayLemmas
 mod IsolatedLemmas
 pub mod BadLemmas
+mod GivenUpLemmas
+mod CompiledLemmas

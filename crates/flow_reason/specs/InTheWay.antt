@@ -36,5 +36,5 @@ pub record AreInTheWay (r : Run) (leaf : ℕ) (outs : List Out) : Type 0 where
   pub least : (front back : List Out) (out : Out) → outs ≡ front ++ out ∷ back → CouldWith r leaf (front ++ back)
 
 -- with all the claims that are out it could, if nothing had been given up
-abbrev pub IsGivenUp : Run → ℕ → Type 0
-IsGivenUp r leaf = (outs : List Out) × AreClaimsOut (schema r) r.history outs × CouldWith r leaf outs
+abbrev pub IsBarred : Run → ℕ → Type 0
+IsBarred r leaf = (outs : List Out) × AreClaimsOut (schema r) r.history outs × CouldWith r leaf outs

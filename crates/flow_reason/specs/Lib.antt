@@ -4,6 +4,7 @@ pub mod Facts
 pub mod Reasons
 pub mod Sides
 pub mod InTheWay
+pub mod GivenUp
 pub mod Waiting
 pub mod Bad
 pub mod Isolated

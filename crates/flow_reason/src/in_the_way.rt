@@ -1,18 +1,19 @@
 //! Claims that are in the way of a leaf.
-ghost use Rattle.std.specs.Prelude.{◌≡◌, ◌↔◌, ◌<◌, ◌+◌, ◌++◌, ◌∷◌, [], ℕ, List, IsTrue, IfOk, IfSome, is_some, length, take, drop};
+ghost use Rattle.std.specs.Prelude.{◌≡◌, ◌↔◌, ◌<◌, ◌+◌, ◌++◌, ◌∷◌, [], ℕ, List, IsTrue, IfOk, IfNone, IfSome, is_some, length, take, drop};
 ghost use Rattle.flow_model.specs.Facts.{event_at};
 ghost use Rattle.flow_model.specs.Lists.{◌∈◌};
 ghost use Rattle.flow_model.specs.Run.{RunState};
 ghost use Rattle.flow_model.specs.Schema.{Schema};
 ghost use Rattle.flow_laws.specs.WellFormed.{IsWellFormed};
-ghost use Rattle.flow_plan.specs.Compilation.{IsCompiled};
+ghost use Rattle.flow_plan.specs.Compilation.{IsCompiled, IsWithinLimits};
 ghost use Rattle.flow_core.specs.Run.{schema, now};
 ghost use Rattle.flow_residual.specs.Remaining.{IsOf};
+ghost use Rattle.flow_why.specs.Fronts.{IsFront};
 ghost use Rattle.flow_standing.specs.declared.claims.Out.{Out};
 ghost use Rattle.flow_reason.specs.InTheWay.{unbanned, leaves_of, MayCome};
 
+use crate::compiled::compiled_again;
 use flow_core::Core;
-use flow_front::{Stop, compile_workflow};
 use flow_plan::Compiled;
 use flow_residual::Residual;
 use flow_standing::Out;
@@ -24,8 +25,9 @@ fn after_leaves(
     compiled: Compiled,
     leaves: &[u32],
 ) -> Result<Option<Residual>, AllocError>
-    ensures { (w : Schema) (s : RunState) → IsWellFormed w → IsCompiled w compiled → s.journal ≡ leaves.now → s.bans ≡ [] →
+    ensures some { (w : Schema) (s : RunState) → IsWellFormed w → IsCompiled w compiled → s.journal ≡ leaves.now → s.bans ≡ [] →
         IfOk result (λ found. IfSome found (IsOf w s)) }
+    ensures none { (w : Schema) → IsWellFormed w → IsCompiled w compiled → IfOk result (λ found. IfNone found (¬ (IsFront w leaves.now))) }
 {
     let mut residual = Residual::new(alloc, compiled)?;
     for leaf in leaves {
@@ -37,20 +39,17 @@ fn after_leaves(
     Ok(Some(residual))
 }
 
-/// What would remain of a run's workflow if nothing had been given up.
+/// What would remain of a run's workflow if nothing had been given up; nothing where it is past the limits.
 pub(crate) fn ungiven(alloc: Global, core: &Core) -> Result<Option<Residual>, AllocError>
-    ensures { IfOk result (λ found. IfSome found (IsOf (schema core.now) (unbanned (now core.now)))) }
+    ensures some { IfOk result (λ found. IfSome found (IsOf (schema core.now) (unbanned (now core.now)))) }
+    ensures none { IfOk result (λ found. IfNone found (¬ (IsWithinLimits (schema core.now)))) }
 {
-    let workflow = core.workflow();
-    // what it keeps of its goal
-    let _ = workflow.tree();
-    match compile_workflow(alloc, workflow) {
-        Ok(compiled) => after_leaves(alloc, compiled, core.journal()),
-        Err(Stop::NoMemory) => Err(AllocError),
-        Err(stop) => {
-            drop(stop);
-            Ok(None)
-        }
+    // what the workflow keeps of its goal, and the history
+    let _ = core.workflow().tree();
+    let _ = core.history();
+    match compiled_again(alloc, core)? {
+        Some(compiled) => after_leaves(alloc, compiled, core.journal()),
+        None => Ok(None),
     }
 }
 

@@ -1,7 +1,7 @@
 ghost use Rattle.std.specs.Prelude.{◌≡◌, ◌↔◌, [], IsTrue, IfOk, IfSome};
 ghost use Rattle.flow_model.specs.Run.{CanDoAside};
 ghost use Rattle.flow_core.specs.Run.{schema, now};
-ghost use Rattle.flow_reason.specs.Reasons.{IsBlocked, IsIdle, IsHeld, IsReason};
+ghost use Rattle.flow_reason.specs.Reasons.{IsBlocked, IsIdle, IsHeld, IsKept, IsReason};
 ghost use Rattle.flow_residual.specs.Remaining.{IsOf};
 ghost use Rattle.flow_reason.specs.InTheWay.{unbanned};
 ghost use Rattle.flow_reason.specs.Isolated.{IsLeftOfPart};
@@ -11,6 +11,7 @@ ghost use Rattle.flow_model.specs.Lists.{Each};
 use crate::claimed::{Out, claim_out_on};
 use crate::done_by::entry_that_did;
 use crate::facts::{label_at, leaves, left_to};
+use crate::given_up::is_given_up;
 use crate::in_the_way::{is_event, least_in_the_way, may_come_with, ungiven};
 use crate::isolated::open_leaves;
 use crate::reason::Reason;
@@ -91,6 +92,17 @@ fn why_held(alloc: Global, core: &Core, leaf: u32) -> Result<Reason, AllocError>
     if let Some(other) = chosen_against(alloc, core, leaf)? {
         return Ok(Reason::OtherSide { leaf: other });
     }
+    if is_given_up(alloc, core, leaf)? {
+        return Ok(Reason::GivenUp);
+    }
+    why_kept(alloc, core, leaf)
+}
+
+/// The same of a leaf that is on no other side of a choice, as far as that is known, and that was not given up.
+fn why_kept(alloc: Global, core: &Core, leaf: u32) -> Result<Reason, AllocError>
+    requires { IsKept core.now leaf }
+    ensures { IfOk result (IsReason core.now leaf) }
+{
     let Some(conflict) = why_not_next(alloc, core, leaf)? else {
         return why_beside(alloc, core, leaf);
     };
@@ -101,7 +113,7 @@ fn why_held(alloc: Global, core: &Core, leaf: u32) -> Result<Reason, AllocError>
 
 /// The same of a leaf that goal and constraints let come next, as far as that is known.
 fn why_beside(alloc: Global, core: &Core, leaf: u32) -> Result<Reason, AllocError>
-    requires { IsHeld core.now leaf }
+    requires { IsKept core.now leaf }
     ensures { IfOk result (IsReason core.now leaf) }
 {
     let Some(residual) = ungiven(alloc, core)? else {
@@ -119,14 +131,14 @@ fn why_claims(
     residual: &Residual,
     leaf: u32,
 ) -> Result<Reason, AllocError>
-    requires held { IsHeld core.now leaf }
+    requires kept { IsKept core.now leaf }
     requires remains { IsOf (schema core.now) (unbanned (now core.now)) residual.now }
     ensures { IfOk result (IsReason core.now leaf) }
 {
     let outs = claims_out(alloc, core)?;
     let event = is_event(core, leaf);
     if may_come_with(alloc, residual, event, &outs, leaf)? {
-        return Ok(Reason::GivenUp);
+        return Ok(Reason::Barred);
     }
     let claims = least_in_the_way(alloc, residual, event, &outs, leaf)?;
     Ok(Reason::Claims { claims })
@@ -156,7 +168,7 @@ fn why_conflict(
     leaves: Vec<u32>,
     unfinished: Vec<u32>,
 ) -> Reason
-    requires held { IsHeld core.now leaf }
+    requires kept { IsKept core.now leaf }
     requires conflict { IsNotNext core.now leaf conflict.members.items conflict.undecided.items }
     requires before { Each (IsBefore core.now leaf) leaves.items }
     requires unfinished { Each (IsLeftOfPart core.now leaf) unfinished.items }
@@ -178,7 +190,7 @@ fn why_conflict(
 
 /// What it comes to that the goal alone does not let the leaf come next.
 fn why_waits(core: &Core, leaf: u32, leaves: Vec<u32>, unfinished: Vec<u32>) -> Reason
-    requires held { IsHeld core.now leaf }
+    requires kept { IsKept core.now leaf }
     requires waits { WaitsByGoal core.now leaf leaves.items }
     requires unfinished { Each (IsLeftOfPart core.now leaf) unfinished.items }
     ensures { IsReason core.now leaf result }

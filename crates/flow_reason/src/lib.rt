@@ -3,8 +3,10 @@
 
 mod bad;
 mod claimed;
+mod compiled;
 mod done_by;
 mod facts;
+mod given_up;
 mod in_the_way;
 mod isolated;
 mod leaf;

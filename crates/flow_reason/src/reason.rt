@@ -29,6 +29,9 @@ pub enum Reason {
     OtherSide {
         leaf: u32,
     },
+    /// It was given up, or needs what was: something failed, or the run stepped back over it. No execution has it that is still free, and some
+    /// would that goes on from the journal.
+    GivenUp,
     /// The goal alone does not let it come next: in each trace of the goal that goes on from the journal and has it, these leaves, which
     /// are not done, stand before it. Others may, too.
     Waits {
@@ -48,8 +51,8 @@ pub enum Reason {
     Claims {
         claims: Vec<Out>,
     },
-    /// If nothing had been given up, which failed or which the run stepped back over, the leaf could be taken, or done whatever facts hold.
-    GivenUp,
-    /// Something else: of this no more is told.
+    /// What was given up is in the way now, though the leaf may still come: if nothing had been, it could be taken, or done whatever facts hold.
+    Barred,
+    /// No more is told, since the workflow is past the limits.
     Other,
 }

@@ -168,6 +168,10 @@ impl Reason {
                 push_leaf(text, workflow, *other)?;
                 push_words(text, ", which is done")
             }
+            Reason::GivenUp => push_words(
+                text,
+                " was given up, or needs what was: a task failed, or the run stepped back",
+            ),
             Reason::Waits { leaves } => {
                 push_words(text, " may not come next, by the goal")?;
                 if leaves.is_empty() {
@@ -188,7 +192,7 @@ impl Reason {
                 undecided,
             } => push_constraints(text, constraints, undecided),
             Reason::Claims { claims } => push_claims(text, workflow, claims),
-            Reason::GivenUp => push_words(
+            Reason::Barred => push_words(
                 text,
                 " may not come next, since something was given up: a task failed, or the run stepped back",
             ),

@@ -19,7 +19,7 @@ returns c =
     let claims : List Out = c.in_ok-claims.claims.items in
     let is = c.is_event-event.ensures in
     let all = c.in_ok-outs.ensures in (
-      c.requires.held,
+      c.requires.kept,
       record {
         are_out = λ out m.
             let there : out ∈ outs = subst (λ (l : List Out). out ∈ l) c.deref-2.ensures.value (c.in_ok-claims.ensures.among out m) in

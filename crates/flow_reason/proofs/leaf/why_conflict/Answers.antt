@@ -1,4 +1,4 @@
-use Rattle.std.proofs.Common.{◌≡◌, ◌<◌, ℕ, List, [], length, sym, subst, ◌∙◌, true≢false}
+use Rattle.std.proofs.Common.{◌≡◌, ℕ, List, [], sym, subst, ◌∙◌, true≢false}
 use Rattle.flow_why.specs.Constraints.{IsMet}
 use Rattle.flow_core.specs.Run.{schema}
 use Rattle.flow_reason.specs.Waiting.{with_next}
@@ -16,7 +16,7 @@ why_waits-requires-clause-waits c =
 
 pub returns-else-is_none : goal.returns-else-is_none
 returns-else-is_none c = (
-  c.requires.held,
+  c.requires.kept,
   record {
     some = some_member c.args.conflict.members.items (λ nil. true≢false (sym (c.is_none.ensures.1 (c.deref.ensures.value ∙ nil)) ∙ c.if-is_none.false));
     not_next = c.requires.conflict;
