@@ -1,7 +1,7 @@
 use crate::things::Subject;
 use flow_fault::spot_of;
 use flow_lint::{Finding, Kind};
-use flow_why_cli::Page;
+use flow_writer::Writer;
 use std::alloc::{AllocError, Global};
 
 /// The word of a kind.
@@ -22,29 +22,25 @@ fn kind_name(kind: Kind) -> &'static str {
 
 /// Adds a finding as an object.
 fn push_object(
-    page: &mut Page,
+    writer: &mut Writer,
     alloc: Global,
     subject: &Subject<'_>,
     finding: Finding,
 ) -> Result<(), AllocError> {
-    page.words("{\"finding\":")?;
-    page.quoted(kind_name(finding.kind).as_bytes())?;
-    page.words(",\"number\":")?;
-    page.number(u64::from(finding.number))?;
+    writer.words("{\"finding\":")?;
+    writer.quoted(kind_name(finding.kind).as_bytes())?;
+    writer.number_member("number", u64::from(finding.number))?;
     if let Some(place) = subject.place(alloc, finding)? {
         let spot = spot_of(subject.text, subject.text.len().min(place));
-        page.words(",\"line\":")?;
-        page.number(spot.line as u64)?;
-        page.words(",\"column\":")?;
-        page.number(spot.column as u64)?;
+        writer.number_member("line", spot.line as u64)?;
+        writer.number_member("column", spot.column as u64)?;
     }
     let mut name = Vec::new(alloc);
     subject.push_name(&mut name, finding)?;
     if !name.is_empty() {
-        page.words(",\"name\":")?;
-        page.quoted(&name)?;
+        writer.text_member("name", &name)?;
     }
-    page.words("}")
+    writer.words("}")
 }
 
 /// Findings as a list of objects, on a line.
@@ -53,14 +49,12 @@ pub(crate) fn finding_objects(
     subject: &Subject<'_>,
     findings: &[Finding],
 ) -> Result<Vec<u8>, AllocError> {
-    let mut page = Page::new(alloc);
-    page.words("{\"findings\":[")?;
-    let mut before = "";
-    for finding in findings {
-        page.words(before)?;
-        push_object(&mut page, alloc, subject, *finding)?;
-        before = ",";
+    let mut writer = Writer::new(alloc);
+    writer.words("{\"findings\":[")?;
+    for (index, finding) in findings.iter().enumerate() {
+        writer.between(index, ",")?;
+        push_object(&mut writer, alloc, subject, *finding)?;
     }
-    page.words("]}\n")?;
-    Ok(page.into_bytes())
+    writer.words("]}\n")?;
+    Ok(writer.text)
 }

@@ -1,7 +1,7 @@
 use crate::things::Subject;
 use flow_fault::spot_of;
 use flow_lint::{Finding, Kind};
-use flow_why_cli::Page;
+use flow_writer::Writer;
 use std::alloc::{AllocError, Global};
 
 /// What is said before the name of that of which a finding of the kind speaks, and behind it.
@@ -28,24 +28,24 @@ fn said_of(kind: Kind) -> (&'static str, &'static str) {
 
 /// Adds the line of a finding.
 fn push_line(
-    page: &mut Page,
+    writer: &mut Writer,
     alloc: Global,
     subject: &Subject<'_>,
     finding: Finding,
 ) -> Result<(), AllocError> {
     if let Some(place) = subject.place(alloc, finding)? {
         let spot = spot_of(subject.text, subject.text.len().min(place));
-        page.words("line ")?;
-        page.number(spot.line as u64)?;
-        page.words(", column ")?;
-        page.number(spot.column as u64)?;
-        page.words(": ")?;
+        writer.words("line ")?;
+        writer.number(spot.line as u64)?;
+        writer.words(", column ")?;
+        writer.number(spot.column as u64)?;
+        writer.words(": ")?;
     }
     let (before, behind) = said_of(finding.kind);
-    page.words(before)?;
-    subject.push_name(page.bytes(), finding)?;
-    page.words(behind)?;
-    page.words("\n")
+    writer.words(before)?;
+    subject.push_name(&mut writer.text, finding)?;
+    writer.words(behind)?;
+    writer.words("\n")
 }
 
 /// Findings in words, a line each.
@@ -54,9 +54,9 @@ pub(crate) fn finding_lines(
     subject: &Subject<'_>,
     findings: &[Finding],
 ) -> Result<Vec<u8>, AllocError> {
-    let mut page = Page::new(alloc);
+    let mut writer = Writer::new(alloc);
     for finding in findings {
-        push_line(&mut page, alloc, subject, *finding)?;
+        push_line(&mut writer, alloc, subject, *finding)?;
     }
-    Ok(page.into_bytes())
+    Ok(writer.text)
 }

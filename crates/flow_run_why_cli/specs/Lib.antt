@@ -1,4 +1,3 @@
-pub mod Parts
 pub mod Told
 pub mod Session
 pub mod Journal

@@ -21,7 +21,7 @@ use Rattle.flow_front.specs.Stages.{Then, Prepares}
 use Rattle.flow_reply.specs.Replies.{Given, IsSame}
 use Rattle.flow_reply.specs.Verdict.{ended}
 use Rattle.flow_duty.specs.Replies.{WasGiven}
-use Rattle.flow_run_why_cli.specs.Parts.{part_of}
+use Rattle.flow_run_why_words.specs.Parts.{part_of}
 use Rattle.flow_run_why_cli.specs.Told.{Answer}
 
 -- how many entries a history may have, as flow has it where no other number is given; and whoever calls before a user does

@@ -9,11 +9,10 @@ ghost use Rattle.flow_front.specs.Stop.{IsStop};
 ghost use Rattle.flow_why_cli.specs.Explained.{IsExplainedStop};
 ghost use Rattle.flow_policy.specs.Policy.{IsPolicyOf};
 ghost use Rattle.flow_roles.specs.Desked.{Desked};
-ghost use Rattle.flow_run_why_cli.specs.Parts.{part_of};
+ghost use Rattle.flow_run_why_words.specs.Parts.{part_of};
 ghost use Rattle.flow_run_why_cli.specs.Told.{TellsAnswer, Tells, IsToldOf};
 ghost use Rattle.flow_run_why_cli.specs.Session.{answer_of, first_desk, IsDrivenByUsers, DrivesUsers, DutySaid, DutyLines, DutyText};
 
-use crate::lines::{Line, lines_said, without_divider};
 use crate::replies::tell_duties;
 use crate::session::{STEPS, conclude};
 use crate::stops::tell_stop;
@@ -23,7 +22,9 @@ use flow_front::{Output, Prepared, Refused, Stop, prepare};
 use flow_model::GREATEST_INPUT;
 use flow_policy::{Duty, Policy, policy_of, read_duties};
 use flow_roles::Desk;
-use flow_why_cli::{Form, Page, written_rules};
+use flow_run_why_words::{Line, lines_said, without_divider};
+use flow_why_cli::{Form, written_rules};
+use flow_writer::Writer;
 use std::alloc::{AllocError, Global};
 
 /// The number of whoever calls before a user does. It is no user's.
@@ -42,10 +43,10 @@ fn drive_desk(
     ensures { IfOk result (λ output. (last : Desked) × IsDrivenByUsers desk.old duties.now last × TellsAnswer (answer_of last.run) form output.status output.text.items) }
 {
     let rules = written_rules(alloc, text)?;
-    let mut page = Page::new(alloc);
+    let mut writer = Writer::new(alloc);
     let mut caller = NOBODY;
     tell_duties(
-        &mut page,
+        &mut writer,
         alloc,
         text,
         &rules,
@@ -55,7 +56,7 @@ fn drive_desk(
         lines,
         form,
     )?;
-    conclude(page, alloc, text, &rules, desk, leaf, form)
+    conclude(writer, alloc, text, &rules, desk, leaf, form)
 }
 
 /// Drives a compiled workflow by lines of users.

@@ -9,13 +9,10 @@ ghost use Rattle.flow_trace.specs.declared.checked.Checked.{Checked};
 ghost use Rattle.flow_trace.specs.declared.checked.Checked.TheVariants as variants;
 ghost use Rattle.flow_trace.specs.Traces.{TellsOfTrace};
 ghost use Rattle.flow_why_cli.specs.Explained.{BeginsInWords};
-ghost use Rattle.flow_run_why_cli.specs.Parts.{part_of};
+ghost use Rattle.flow_run_why_words.specs.Parts.{part_of};
 ghost use Rattle.flow_run_why_cli.specs.Told.{TellsAnswer, Tells, IsToldOf, IsExplainedWith};
 ghost use Rattle.flow_run_why_cli.specs.Journal.{answer_of_checked, status_of_checked, TracesLeaves, TracesWorkflow, TracesText};
 
-use crate::lines::{Line, lines_said, push_line, without_divider};
-use crate::reason_json::{push_leaf_members, push_reason_members};
-use crate::reason_words::push_reason;
 use crate::session::STEPS;
 use crate::stops::tell_stop;
 use flow_core::Core;
@@ -23,106 +20,13 @@ use flow_findings::print_checked;
 use flow_form::Script;
 use flow_front::{Output, Status, Stop, compile_workflow, expand_script};
 use flow_plan::Compiled;
-use flow_reason::{Bad, why_bad};
-use flow_record::{cut, print_pieces, push_leaf_line, read_journal};
+use flow_reason::why_bad;
+use flow_record::{cut, print_pieces, read_journal};
+use flow_run_why_words::{Line, bad_object, bad_words, lines_said, without_divider};
 use flow_trace::{Checked, check_trace};
-use flow_why_cli::{Form, Page, explain_stop, push_number, push_text, script_of, written_rules};
+use flow_why_cli::{Form, explain_stop, script_of};
 use flow_workflow::Workflow;
 use std::alloc::{AllocError, Global};
-
-/// Adds the line at that place, in words or as members of an object.
-fn push_journal_line(
-    page: &mut Page,
-    lines: &[Line<'_>],
-    place: usize,
-    form: Form,
-) -> Result<(), AllocError> {
-    match lines.get(place) {
-        None => Ok(()),
-        Some(line) if form == Form::Json => {
-            push_number(page, "line", line.number as u64)?;
-            push_text(page, "text", line.text)
-        }
-        Some(line) => push_line(page, *line),
-    }
-}
-
-/// Adds why the leaf may not come there, and what could have come, in words.
-fn push_bad(
-    page: &mut Page,
-    alloc: Global,
-    text: &[u8],
-    core: &Core,
-    bad: &Bad,
-) -> Result<(), AllocError> {
-    let rules = written_rules(alloc, text)?;
-    push_reason(page, text, &rules, core, bad.leaf, &bad.reason)?;
-    if bad.instead.is_empty() {
-        return page.words("nothing could have come there\n");
-    }
-    page.words("could have come there:\n")?;
-    for leaf in &bad.instead {
-        page.words("  ")?;
-        push_leaf_line(page.bytes(), core.workflow(), *leaf)?;
-    }
-    Ok(())
-}
-
-/// Adds why the leaf may not come there, and what could have come, as members of an object.
-fn push_bad_members(
-    page: &mut Page,
-    alloc: Global,
-    core: &Core,
-    bad: &Bad,
-) -> Result<(), AllocError> {
-    page.words(",")?;
-    push_reason_members(page, alloc, core, bad.leaf, &bad.reason)?;
-    page.words(",\"instead\":[")?;
-    let mut before = "{";
-    for leaf in &bad.instead {
-        page.words(before)?;
-        push_leaf_members(page, alloc, core.workflow(), *leaf)?;
-        page.words("}")?;
-        before = ",{";
-    }
-    page.words("]")
-}
-
-/// What is told in words of a journal that is bad at a place, besides flow's own line.
-fn bad_words(
-    alloc: Global,
-    text: &[u8],
-    core: &Core,
-    lines: &[Line<'_>],
-    place: usize,
-    bad: &Option<Bad>,
-) -> Result<Vec<u8>, AllocError> {
-    let mut page = Page::new(alloc);
-    push_journal_line(&mut page, lines, place, Form::Words)?;
-    if let Some(bad) = bad {
-        push_bad(&mut page, alloc, text, core, bad)?;
-    }
-    Ok(page.into_bytes())
-}
-
-/// A journal that is bad at a place, as an object.
-fn bad_object(
-    alloc: Global,
-    core: &Core,
-    lines: &[Line<'_>],
-    place: u32,
-    bad: &Option<Bad>,
-) -> Result<Vec<u8>, AllocError> {
-    let mut page = Page::new(alloc);
-    page.words("{\"verdict\":\"bad\"")?;
-    push_number(&mut page, "place", u64::from(place))?;
-    push_journal_line(&mut page, lines, place as usize, Form::Json)?;
-    if let Some(bad) = bad {
-        push_bad_members(&mut page, alloc, core, bad)?;
-    }
-    page.words("}\n")?;
-    Ok(page.into_bytes())
-}
 
 /// What is told of a journal that is bad at a place.
 fn bad_text(

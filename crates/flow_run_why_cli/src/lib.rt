@@ -2,18 +2,10 @@
 //! execution, and what is wrong with a policy or a query.
 #![tactic(auto)]
 
-mod asked;
 mod duties;
 mod journal;
-mod leaves;
-mod line_words;
-mod lines;
-mod policy_words;
 mod query;
-mod reason_json;
-mod reason_words;
 mod replies;
-mod second;
 mod session;
 mod stops;
 

@@ -8,11 +8,10 @@ ghost use Rattle.flow_text.specs.GoodNames.{AsksOfEvents};
 ghost use Rattle.flow_workflow.specs.Rule.{rule_of};
 ghost use Rattle.flow_why_cli.specs.Explained.{BeginsInWords};
 ghost use Rattle.flow_findings.specs.Judging.{verified_text, redundancy_text};
-ghost use Rattle.flow_run_why_cli.specs.Parts.{part_of};
+ghost use Rattle.flow_run_why_words.specs.Parts.{part_of};
 ghost use Rattle.flow_run_why_cli.specs.Told.{Tells, IsToldOf, IsExplainedWith};
 ghost use Rattle.flow_run_why_cli.specs.Query.{status_of_verified, status_of_redundancy, question_stop, VerifiesProperty, VerifiesConstraint, VerifiesWorkflow, VerifiesSaid, VerifiesText};
 
-use crate::lines::without_divider;
 use crate::stops::tell_stop;
 use flow_excise::CompileRefusal;
 use flow_expand::rule_of;
@@ -20,10 +19,12 @@ use flow_findings::{print_redundancy, print_verified};
 use flow_form::{Query, Script};
 use flow_front::{Output, Refused, Status, Stop, expand_script};
 use flow_record::cut;
+use flow_run_why_words::without_divider;
 use flow_text::parse_query;
 use flow_verify::{Redundancy, Verified, VerifyRefusal};
-use flow_why_cli::{Form, Page, explain_stop, push_numbers, script_of};
+use flow_why_cli::{Form, explain_stop, script_of};
 use flow_workflow::{Rule, Workflow};
+use flow_writer::Writer;
 use std::alloc::{AllocError, Global};
 
 /// The status of what is told of a property.
@@ -62,13 +63,13 @@ fn question_stop(refusal: VerifyRefusal) -> Stop
 
 /// A verdict as an object, with the leaves of an execution that shows it.
 fn verdict_object(alloc: Global, verdict: &str, execution: &[u32]) -> Result<Vec<u8>, AllocError> {
-    let mut page = Page::new(alloc);
-    page.words("{\"verdict\":\"")?;
-    page.words(verdict)?;
-    page.words("\",\"execution\":[")?;
-    push_numbers(&mut page, execution)?;
-    page.words("]}\n")?;
-    Ok(page.into_bytes())
+    let mut writer = Writer::new(alloc);
+    writer.words("{\"verdict\":\"")?;
+    writer.words(verdict)?;
+    writer.words("\",\"execution\":[")?;
+    writer.numbers(execution)?;
+    writer.words("]}\n")?;
+    Ok(writer.text)
 }
 
 /// What is told of a property: flow's own lines, or an object.

@@ -1,4 +1,4 @@
-//! The lines of a session that are refused, and why.
+//! Lines that are given to a run or a desk, of which those that are refused are told.
 ghost use Rattle.std.specs.Prelude.{OnOk, Result};
 ghost use Rattle.flow_ask.specs.declared.made.Made.{Made};
 ghost use Rattle.flow_ask.specs.declared.refusal.Refusal.{Refusal};
@@ -6,99 +6,23 @@ ghost use Rattle.flow_reply.specs.Replies.{Given};
 ghost use Rattle.flow_duty.specs.Replies.{IsCalled, IsLineGiven, WasGiven};
 ghost use Rattle.flow_run_why_cli.specs.Session.{AreGiven, IsDriven};
 
-use crate::asked::{has_reason, leaf_asked, meaning_of};
-use crate::lines::{Line, line_at, push_line};
-use crate::reason_json::push_reason_members;
-use crate::reason_words::push_reason;
-use flow_ask::{Ask, Refusal};
+use flow_ask::Ask;
 use flow_core::{Asked, Core};
 use flow_facts::Name;
 use flow_policy::{Duty, Policy};
-use flow_reason::why_leaf;
 use flow_record::Command;
-use flow_reply::print_answer;
 use flow_roles::Desk;
-use flow_why_cli::{Form, Page, WrittenRule, push_text};
+use flow_run_why_words::{Line, line_at, push_no_user, push_refused};
+use flow_why_cli::{Form, WrittenRule};
+use flow_writer::Writer;
 use std::alloc::{AllocError, Global};
 
 /// Whoever makes the entries of a session that has no users. It is no user's number.
 const NOBODY: u32 = 0;
 
-/// Adds why a line is refused, in words.
-fn push_words(
-    page: &mut Page,
-    alloc: Global,
-    text: &[u8],
-    rules: &[WrittenRule],
-    core: &Core,
-    line: Line<'_>,
-    ask: Ask,
-    refusal: Refusal,
-) -> Result<(), AllocError> {
-    push_line(page, line)?;
-    page.words("  ")?;
-    page.push(&print_answer(alloc, core, ask, &Err(refusal))?)?;
-    page.words("\n  ")?;
-    match leaf_asked(ask) {
-        Some(leaf) if has_reason(refusal) => {
-            let reason = why_leaf(alloc, core, leaf)?;
-            push_reason(page, text, rules, core, leaf, &reason)
-        }
-        _ => {
-            page.words(meaning_of(refusal))?;
-            page.words("\n")
-        }
-    }
-}
-
-/// Adds why a line is refused, as an object.
-fn push_object(
-    page: &mut Page,
-    alloc: Global,
-    core: &Core,
-    line: Line<'_>,
-    ask: Ask,
-    refusal: Refusal,
-) -> Result<(), AllocError> {
-    page.words("{\"line\":")?;
-    page.number(line.number as u64)?;
-    push_text(page, "text", line.text)?;
-    push_text(
-        page,
-        "reply",
-        &print_answer(alloc, core, ask, &Err(refusal))?,
-    )?;
-    match leaf_asked(ask) {
-        Some(leaf) if has_reason(refusal) => {
-            let reason = why_leaf(alloc, core, leaf)?;
-            page.words(",")?;
-            push_reason_members(page, alloc, core, leaf, &reason)?;
-        }
-        _ => {}
-    }
-    page.words("}\n")
-}
-
-/// Adds why a line is refused that calls no user.
-fn push_no_user(page: &mut Page, line: Line<'_>, form: Form) -> Result<(), AllocError> {
-    match form {
-        Form::Json => {
-            page.words("{\"line\":")?;
-            page.number(line.number as u64)?;
-            push_text(page, "text", line.text)?;
-            push_text(page, "reply", b"refused user")?;
-            page.words("}\n")
-        }
-        Form::Words | Form::WithCircles => {
-            push_line(page, line)?;
-            page.words("  refused user\n  the policy gives no user of that name a role\n")
-        }
-    }
-}
-
 /// Asks the run for the caller, and adds why that is refused, where it is.
 fn tell_ask<R: Asked>(
-    page: &mut Page,
+    writer: &mut Writer,
     alloc: Global,
     text: &[u8],
     rules: &[WrittenRule],
@@ -113,16 +37,27 @@ fn tell_ask<R: Asked>(
     ensures lasts { R.can_be_asked run.new }
 {
     let answer = run.answer(ask, by);
-    match (answer, form) {
-        (Ok(_), _) => Ok(()),
-        (Err(refusal), Form::Json) => push_object(page, alloc, run.core(), line, ask, refusal),
-        (Err(refusal), _) => push_words(page, alloc, text, rules, run.core(), line, ask, refusal),
+    match answer {
+        Ok(_) => Ok(()),
+        Err(refusal) => {
+            push_refused(
+                writer,
+                alloc,
+                text,
+                rules,
+                run.core(),
+                line,
+                ask,
+                refusal,
+                form,
+            )
+        }
     }
 }
 
 /// Gives the caller's command to the run, and adds why it is refused, where it is. What shows something is not told.
 fn tell_command<R: Asked>(
-    page: &mut Page,
+    writer: &mut Writer,
     alloc: Global,
     text: &[u8],
     rules: &[WrittenRule],
@@ -137,14 +72,14 @@ fn tell_command<R: Asked>(
     ensures lasts { R.can_be_asked run.new }
 {
     match command {
-        Command::Ask(ask) => tell_ask(page, alloc, text, rules, run, ask, by, line, form),
+        Command::Ask(ask) => tell_ask(writer, alloc, text, rules, run, ask, by, line, form),
         Command::Look(_) => Ok(()),
     }
 }
 
 /// Gives commands to a run, and adds why each that is refused is so. The lines are theirs.
 pub(crate) fn tell_commands(
-    page: &mut Page,
+    writer: &mut Writer,
     alloc: Global,
     text: &[u8],
     rules: &[WrittenRule],
@@ -157,14 +92,16 @@ pub(crate) fn tell_commands(
 {
     for (place, command) in commands.iter().enumerate() {
         let line = line_at(lines, place);
-        tell_command(page, alloc, text, rules, core, *command, NOBODY, line, form)?;
+        tell_command(
+            writer, alloc, text, rules, core, *command, NOBODY, line, form,
+        )?;
     }
     Ok(())
 }
 
 /// Lets the user of that name call, where there is one, and adds that there is none.
 fn call(
-    page: &mut Page,
+    writer: &mut Writer,
     policy: &Policy,
     caller: &mut u32,
     name: &Name,
@@ -178,13 +115,13 @@ fn call(
             *caller = user;
             Ok(())
         }
-        None => push_no_user(page, line, form),
+        None => push_no_user(writer, line, form),
     }
 }
 
 /// Gives a line to the desk, and adds why it is refused, where it is. Who is called calls from then on.
 fn tell_duty(
-    page: &mut Page,
+    writer: &mut Writer,
     alloc: Global,
     text: &[u8],
     rules: &[WrittenRule],
@@ -197,10 +134,10 @@ fn tell_duty(
     ensures { IsLineGiven desk.old caller.old duty.now desk.new caller.new }
 {
     match duty {
-        Duty::As(name) => call(page, desk.policy(), caller, name, line, form),
+        Duty::As(name) => call(writer, desk.policy(), caller, name, line, form),
         Duty::Command(command) => {
             tell_command(
-                page, alloc, text, rules, desk, *command, *caller, line, form,
+                writer, alloc, text, rules, desk, *command, *caller, line, form,
             )
         }
     }
@@ -208,7 +145,7 @@ fn tell_duty(
 
 /// Gives the lines of users to a desk, and adds why each that is refused is so.
 pub(crate) fn tell_duties(
-    page: &mut Page,
+    writer: &mut Writer,
     alloc: Global,
     text: &[u8],
     rules: &[WrittenRule],
@@ -222,7 +159,7 @@ pub(crate) fn tell_duties(
 {
     for (place, duty) in duties.iter().enumerate() {
         let line = line_at(lines, place);
-        tell_duty(page, alloc, text, rules, desk, caller, duty, line, form)?;
+        tell_duty(writer, alloc, text, rules, desk, caller, duty, line, form)?;
     }
     Ok(())
 }

@@ -3,13 +3,11 @@ ghost use Rattle.std.specs.Prelude.{IfOk};
 ghost use Rattle.flow_form.specs.Script.{said};
 ghost use Rattle.flow_form.specs.Names.{IsClosed, event_names};
 ghost use Rattle.flow_core.specs.Run.{Run};
-ghost use Rattle.flow_run_why_cli.specs.Parts.{part_of};
+ghost use Rattle.flow_run_why_words.specs.Parts.{part_of};
 ghost use Rattle.flow_run_why_cli.specs.Told.{TellsAnswer, Tells, IsToldOf, IsExplainedWith};
 ghost use Rattle.flow_run_why_cli.specs.Session.{answer_of, IsDriven, DrivesSaid, DrivesText, DrivesAsked};
 
 use crate::duties::explain_duties;
-use crate::leaves::{push_meant, push_waiting};
-use crate::lines::{Line, lines_said, without_divider};
 use crate::replies::tell_commands;
 use crate::stops::tell_stop;
 use flow_core::{Asked, Core};
@@ -17,7 +15,9 @@ use flow_form::Script;
 use flow_front::{Output, Prepared, Stop, prepare};
 use flow_record::{Command, cut, read_session};
 use flow_reply::{status_of, verdict_of};
-use flow_why_cli::{Form, Page, WrittenRule, explain_stop, script_of, written_rules};
+use flow_run_why_words::{Line, lines_said, push_meant, push_waiting, without_divider};
+use flow_why_cli::{Form, WrittenRule, explain_stop, script_of, written_rules};
+use flow_writer::Writer;
 use std::alloc::{AllocError, Global};
 
 /// How long a history may be: as `flow` has it where no other number is given.
@@ -25,7 +25,7 @@ pub(crate) const STEPS: u32 = 65_536;
 
 /// Adds what is told of the leaves: of those that the word means, or of all that wait.
 fn push_leaves(
-    page: &mut Page,
+    writer: &mut Writer,
     alloc: Global,
     text: &[u8],
     rules: &[WrittenRule],
@@ -34,14 +34,14 @@ fn push_leaves(
     form: Form,
 ) -> Result<(), AllocError> {
     match leaf {
-        Some(word) => push_meant(page, alloc, text, rules, core, word, form),
-        None => push_waiting(page, alloc, text, rules, core, form),
+        Some(word) => push_meant(writer, alloc, text, rules, core, word, form),
+        None => push_waiting(writer, alloc, text, rules, core, form),
     }
 }
 
 /// Adds what is told of the leaves of a run that was driven.
 pub(crate) fn conclude<R: Asked>(
-    page: Page,
+    writer: Writer,
     alloc: Global,
     text: &[u8],
     rules: &[WrittenRule],
@@ -52,13 +52,13 @@ pub(crate) fn conclude<R: Asked>(
     requires { R.can_be_asked run.old }
     ensures { IfOk result (λ output. TellsAnswer (answer_of (R.run run.old)) form output.status output.text.items) }
 {
-    let mut page = page;
+    let mut writer = writer;
     run.look_ahead();
-    push_leaves(&mut page, alloc, text, rules, run.core(), leaf, form)?;
+    push_leaves(&mut writer, alloc, text, rules, run.core(), leaf, form)?;
     let verdict = verdict_of(run.core());
     Ok(Output {
         status: status_of(&verdict),
-        text: page.into_bytes(),
+        text: writer.text,
     })
 }
 
@@ -75,9 +75,18 @@ fn drive_commands(
     ensures { IfOk result (λ output. (last : Run) × IsDriven core.old commands.now last × TellsAnswer (answer_of last) form output.status output.text.items) }
 {
     let rules = written_rules(alloc, text)?;
-    let mut page = Page::new(alloc);
-    tell_commands(&mut page, alloc, text, &rules, core, commands, lines, form)?;
-    conclude(page, alloc, text, &rules, core, leaf, form)
+    let mut writer = Writer::new(alloc);
+    tell_commands(
+        &mut writer,
+        alloc,
+        text,
+        &rules,
+        core,
+        commands,
+        lines,
+        form,
+    )?;
+    conclude(writer, alloc, text, &rules, core, leaf, form)
 }
 
 /// Drives what a script says by commands, whose lines are these.

@@ -6,11 +6,11 @@ ghost use Rattle.flow_findings.specs.Refusing.{named_by, IsTold};
 ghost use Rattle.flow_front.specs.Stop.{IsStop};
 ghost use Rattle.flow_why_cli.specs.Explained.{BeginsInWords, first_lines, IsExplainedStop, TellsFirst};
 
-use crate::second::{second_object, second_words};
 use flow_findings::print_refused;
 use flow_form::Script;
 use flow_front::{Output, Refused, Status, Stop, expand_script};
 use flow_record::print_pieces;
+use flow_run_why_words::{second_object, second_words};
 use flow_why_cli::{Form, explain_stop, explain_uncompiled};
 use std::alloc::{AllocError, Global};
 

@@ -1,3 +1,6 @@
+ghost use Rattle.std.specs.Prelude.{◌≡◌};
+ghost use Rattle.flow_why_cli.specs.Members.{hint_word};
+
 use flow_fault::Hint;
 use flow_form::Wanted;
 
@@ -24,7 +27,9 @@ pub(crate) fn wanted_words(wanted: Wanted) -> &'static str {
 }
 
 /// The word of a hint in JSON.
-pub(crate) fn hint_name(hint: Hint) -> &'static str {
+pub(crate) fn hint_word(hint: Hint) -> &'static str
+    ensures { result.now ≡ hint_word hint }
+{
     match hint {
         Hint::ByteOrderMark => "byte_order_mark",
         Hint::Utf16 => "utf16",

@@ -1,4 +1,11 @@
-use crate::tokens::symbol_at;
+ghost use Rattle.std.specs.Prelude.{◌≡◌, ◌++◌, true, [], IfOk, OnOk, map};
+ghost use Rattle.std.specs.Option.{option_map};
+ghost use Rattle.flow_lex.specs.Tokens.{lexed};
+ghost use Rattle.flow_reader.specs.Symbols.{meant};
+ghost use Rattle.flow_why_cli.specs.Rules.{HasTokens, begins_rule, blank_before, ends_rule, opens, rule_of, rule_words, rules_of};
+
+use crate::tokens::{bytes_of, symbol_at};
+use flow_form::TextRefusal;
 use flow_lex::{Token, lex};
 use flow_reader::Symbol;
 use std::alloc::{AllocError, Global};
@@ -12,64 +19,96 @@ pub struct WrittenRule {
     pub text: Vec<u8>,
 }
 
-/// Adds a token behind what is written of a constraint.
-fn push_token(text: &mut Vec<u8>, token: &[u8]) -> Result<(), AllocError> {
-    let is_joined = match text.last() {
-        Some(last) => *last == b'(' || token == b")".as_slice(),
-        None => true,
-    };
-    if !is_joined {
-        text.extend_from_slice(b" ")?;
-    }
-    text.extend_from_slice(token)
+/// Whether a constraint begins with that symbol.
+fn begins_rule(symbol: Option<Symbol<'_>>) -> bool
+    ensures { result ≡ begins_rule (option_map meant symbol.entry) }
+{
+    matches!(symbol, Some(Symbol::Constraint))
 }
 
-/// The constraints of a text, in order. Of a text that says nothing there may be none.
-pub fn written_rules(alloc: Global, text: &[u8]) -> Result<Vec<WrittenRule>, AllocError> {
-    let mut rules = Vec::new(alloc);
-    let Ok(tokens) = lex(alloc, text) else {
-        return Ok(rules);
-    };
-    let mut open = false;
-    for token in &tokens {
-        open = read_token(alloc, &mut rules, text, *token, open)?;
-    }
-    Ok(rules)
+/// Whether a constraint ends with that symbol.
+fn ends_rule(symbol: Option<Symbol<'_>>) -> bool
+    ensures { result ≡ ends_rule (option_map meant symbol.entry) }
+{
+    matches!(symbol, Some(Symbol::Semicolon))
 }
 
-/// Takes in a token, where a constraint is open or not, and tells whether one is open behind it.
-fn read_token(
+/// Whether what stands behind that symbol is joined to it.
+fn opens(symbol: Option<Symbol<'_>>) -> bool
+    ensures { result ≡ opens (option_map meant symbol.entry) }
+{
+    matches!(symbol, Some(Symbol::Opening))
+}
+
+/// What stands between the words so far and a token: a blank, unless the token is joined to them.
+fn blank_before(joined: bool, symbol: Option<Symbol<'_>>) -> &'static [u8]
+    ensures { result.now ≡ blank_before joined (option_map meant symbol.entry) }
+{
+    if joined || matches!(symbol, Some(Symbol::Closing)) {
+        b""
+    } else {
+        b" "
+    }
+}
+
+/// Adds the words of a constraint that go on so, up to its semicolon.
+fn push_words(words: &mut Vec<u8>, text: &[u8], tokens: &[Token]) -> Result<(), AllocError>
+    ensures { OnOk result (words.new.items ≡ words.old.items ++ rule_words text.now true tokens.now) }
+{
+    let mut joined = true;
+    for token in tokens {
+        let symbol = symbol_at(text, *token);
+        if ends_rule(symbol) {
+            return Ok(());
+        }
+        words.extend_from_slice(blank_before(joined, symbol))?;
+        words.extend_from_slice(bytes_of(text, *token))?;
+        joined = opens(symbol);
+    }
+    Ok(())
+}
+
+/// The constraint whose word stands at the place, and that goes on so.
+fn written_rule(
+    alloc: Global,
+    text: &[u8],
+    place: usize,
+    tokens: &[Token],
+) -> Result<WrittenRule, AllocError>
+    ensures { IfOk result (λ rule. rule_of rule ≡ record { place = place; words = rule_words text.now true tokens.now }) }
+{
+    let mut words = Vec::new(alloc);
+    push_words(&mut words, text, tokens)?;
+    Ok(WrittenRule { place, text: words })
+}
+
+/// Adds the constraints that the tokens write.
+fn push_rules(
     alloc: Global,
     rules: &mut Vec<WrittenRule>,
     text: &[u8],
-    token: Token,
-    open: bool,
-) -> Result<bool, AllocError> {
-    match symbol_at(text, token) {
-        Some(Symbol::Constraint) => {
-            rules.push(WrittenRule {
-                place: token.start,
-                text: Vec::new(alloc),
-            })?;
-            Ok(true)
-        }
-        Some(Symbol::Semicolon) => Ok(false),
-        _ => {
-            if open {
-                add_to_last(rules, text, token)?;
-            }
-            Ok(open)
+    tokens: &[Token],
+) -> Result<(), AllocError>
+    ensures { OnOk result (map rule_of rules.new.items ≡ map rule_of rules.old.items ++ rules_of text.now tokens.now) }
+{
+    for (number, token) in tokens.iter().enumerate() {
+        if begins_rule(symbol_at(text, *token)) {
+            rules.push(written_rule(alloc, text, token.start, &tokens[number + 1..])?)?;
         }
     }
+    Ok(())
 }
 
-/// Adds a token to the last constraint.
-fn add_to_last(rules: &mut [WrittenRule], text: &[u8], token: Token) -> Result<(), AllocError> {
-    if token.start > token.end || token.end > text.len() {
-        return Ok(());
+/// The constraints of a text, in order, whatever else it says. Of a text that has no tokens there are none.
+pub fn written_rules(alloc: Global, text: &[u8]) -> Result<Vec<WrittenRule>, AllocError>
+    ensures rules { IfOk result (λ rules. HasTokens text.now → map rule_of rules.items ≡ rules_of text.now (lexed text.now).tokens) }
+    ensures none { IfOk result (λ rules. ¬ (HasTokens text.now) → map rule_of rules.items ≡ []) }
+{
+    let mut rules = Vec::new(alloc);
+    match lex(alloc, text) {
+        Ok(tokens) => push_rules(alloc, &mut rules, text, &tokens)?,
+        Err(TextRefusal::NoMemory) => return Err(AllocError),
+        Err(refusal) => drop(refusal),
     }
-    match rules.last_mut() {
-        Some(rule) => push_token(&mut rule.text, &text[token.start..token.end]),
-        None => Ok(()),
-    }
+    Ok(rules)
 }

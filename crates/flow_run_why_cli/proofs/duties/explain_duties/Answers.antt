@@ -3,7 +3,7 @@ use Rattle.std.specs.Prelude.{IfOk}
 use Rattle.flow_form.specs.Script.{said}
 use Rattle.flow_form.specs.Names.{event_names}
 use Rattle.flow_run_why_cli.specs.Told.{IsToldOf}
-use Rattle.flow_run_why_cli.specs.Parts.{part_of}
+use Rattle.flow_run_why_words.specs.Parts.{part_of}
 use Rattle.flow_run_why_cli.specs.Session.{DutyText}
 use Rattle.flow_run_why_cli.proofs.Refusals.{duty_tellable}
 use Rattle.flow_run_why_cli.proofs.Telling.{stop_told, stopped, came}

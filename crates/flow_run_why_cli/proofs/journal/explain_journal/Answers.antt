@@ -1,7 +1,7 @@
 use Rattle.std.proofs.Common.{inr}
 use Rattle.std.proofs.lemmas.Result.{IfOk-weaker}
 use Rattle.flow_form.specs.Script.{said}
-use Rattle.flow_run_why_cli.specs.Parts.{part_of}
+use Rattle.flow_run_why_words.specs.Parts.{part_of}
 use Rattle.flow_run_why_cli.specs.Journal.{TracesText}
 use Rattle.flow_run_why_cli.proofs.Telling.{source_stopped}
 use Rattle.flow_run_why_cli.proofs.journal.explain_journal.Goals as goal

@@ -1,7 +1,7 @@
 use Rattle.std.proofs.Common.{inr}
 use Rattle.std.proofs.lemmas.Result.{IfOk-weaker}
 use Rattle.flow_form.specs.Script.{said}
-use Rattle.flow_run_why_cli.specs.Parts.{part_of}
+use Rattle.flow_run_why_words.specs.Parts.{part_of}
 use Rattle.flow_run_why_cli.specs.Query.{VerifiesText}
 use Rattle.flow_run_why_cli.proofs.Telling.{source_stopped}
 use Rattle.flow_run_why_cli.proofs.query.explain_query.Goals as goal

@@ -1,9 +1,13 @@
 //! What is told of an ask that is refused.
+ghost use Rattle.std.specs.Prelude.{◌≡◌};
+ghost use Rattle.flow_run_why_words.specs.Refused.{has_reason, leaf_asked};
 
 use flow_ask::{Ask, Refusal};
 
 /// The leaf that an ask is about, if it is about one itself.
-pub(crate) fn leaf_asked(ask: Ask) -> Option<u32> {
+pub(crate) fn leaf_asked(ask: Ask) -> Option<u32>
+    ensures { result ≡ leaf_asked ask }
+{
     match ask {
         Ask::Take(leaf) | Ask::Do(leaf) => Some(leaf),
         Ask::Done(_) | Ask::Fail(_) | Ask::Rewind | Ask::Commit => None,
@@ -11,7 +15,9 @@ pub(crate) fn leaf_asked(ask: Ask) -> Option<u32> {
 }
 
 /// Whether the reason of the leaf is why that is refused.
-pub(crate) fn has_reason(refusal: Refusal) -> bool {
+pub(crate) fn has_reason(refusal: Refusal) -> bool
+    ensures { result ≡ has_reason refusal }
+{
     matches!(refusal, Refusal::NotEnabled | Refusal::TestFalse)
 }
 

@@ -1,9 +1,12 @@
 //! What is wrong with a line of a session or a journal, in words.
+ghost use Rattle.std.specs.Prelude.{OnOk};
+ghost use Rattle.flow_model.specs.Lists.{Begins};
 
-use crate::lines::{Line, MOST_SHOWN, line_refused, lines_of};
+use crate::lines::{Line, front, line_refused, lines_of};
 use flow_fault::is_near;
 use flow_record::{RecordRefusal, split_word};
-use flow_why_cli::{Page, push_hint};
+use flow_why_cli::push_hint;
+use flow_writer::Writer;
 use std::alloc::{AllocError, Global};
 
 /// The words with which commands of a session begin.
@@ -38,50 +41,53 @@ fn is_of_session(word: &[u8]) -> bool {
 }
 
 /// Adds what the line is to be.
-fn push_hints(page: &mut Page, line: Line<'_>) -> Result<(), AllocError> {
+fn push_hints(writer: &mut Writer, line: Line<'_>) -> Result<(), AllocError>
+    ensures { OnOk result (Begins writer.new.text.items writer.old.text.items) }
+{
     let (first, _) = split_word(line.text);
     if begins_with_number(line) {
-        return push_hint(page, JOURNAL);
+        return push_hint(writer, JOURNAL);
     }
     if is_of_report(first) {
         return push_hint(
-            page,
+            writer,
             "this is a line of a report: of a journal stand here the lines behind journal N",
         );
     }
-    push_hint(page, COMMANDS)?;
+    push_hint(writer, COMMANDS)?;
     if is_of_session(first) {
-        return Ok(());
+        Ok(())
+    } else {
+        push_hint(writer, JOURNAL)
     }
-    push_hint(page, JOURNAL)
 }
 
 /// Adds the number of a line, and the line in quotes, so that blanks at its ends are seen.
-fn push_quoted(page: &mut Page, line: Line<'_>) -> Result<(), AllocError> {
-    page.words("line ")?;
-    page.number(line.number as u64)?;
-    page.words(": ")?;
-    page.quoted(&line.text[..line.text.len().min(MOST_SHOWN)])?;
-    page.words("\n")
+fn push_quoted(writer: &mut Writer, line: Line<'_>) -> Result<(), AllocError> {
+    writer.words("line ")?;
+    writer.number(line.number as u64)?;
+    writer.words(": ")?;
+    writer.quoted(front(line.text))?;
+    writer.words("\n")
 }
 
 /// Adds which line is not as it must be, and what a line is.
 pub(crate) fn push_line_refusal(
-    page: &mut Page,
+    writer: &mut Writer,
     alloc: Global,
     text: &[u8],
     refusal: RecordRefusal,
 ) -> Result<(), AllocError> {
     let lines = lines_of(alloc, text)?;
     let Some(line) = line_refused(&lines, refusal) else {
-        return push_hint(page, "a session or a journal has at most 16384 lines");
+        return push_hint(writer, "a session or a journal has at most 16384 lines");
     };
-    push_quoted(page, line)?;
+    push_quoted(writer, line)?;
     match refusal {
         RecordRefusal::Label { .. } => push_hint(
-            page,
+            writer,
             "the number of a leaf, one blank, and just its label stand on a line: flow check lists both",
         ),
-        _ => push_hints(page, line),
+        _ => push_hints(writer, line),
     }
 }

@@ -1,9 +1,11 @@
 //! The lines of a session, a journal, a policy or a query.
-ghost use Rattle.std.specs.Prelude.{◌≡◌};
-ghost use Rattle.flow_run_why_cli.specs.Parts.{part_of};
+ghost use Rattle.std.specs.Prelude.{◌≡◌, ◌++◌, OnOk, map, slice_get, unwrap_or};
+ghost use Rattle.std.specs.Option.{option_map};
+ghost use Rattle.flow_run_why_words.specs.Lines.{is_blank, line_members, line_refused, lines_before, no_line, shape_of};
+ghost use Rattle.flow_run_why_words.specs.Parts.{part_of};
 
 use flow_record::RecordRefusal;
-use flow_why_cli::Page;
+use flow_writer::Writer;
 use std::alloc::{AllocError, Global};
 
 /// How many bytes of a line are shown.
@@ -11,11 +13,11 @@ pub(crate) const MOST_SHOWN: usize = 100;
 
 /// A line of a text.
 #[derive(Clone, Copy)]
-pub(crate) struct Line<'a> {
+pub struct Line<'a> {
     /// Counted from 1.
-    pub(crate) number: usize,
+    pub number: usize,
     /// Without its line feed, and without a carriage return before that.
-    pub(crate) text: &'a [u8],
+    pub text: &'a [u8],
 }
 
 /// The text without a carriage return at its end.
@@ -27,7 +29,7 @@ fn without_return(text: &[u8]) -> &[u8] {
 }
 
 /// The text behind its first line, where that is `%%`: so a part stands behind a workflow.
-pub(crate) fn without_divider(text: &[u8]) -> &[u8]
+pub fn without_divider(text: &[u8]) -> &[u8]
     ensures { result.now ≡ part_of text.now }
 {
     match text.strip_prefix(b"%%\n") {
@@ -40,7 +42,9 @@ pub(crate) fn without_divider(text: &[u8]) -> &[u8]
 }
 
 /// How many lines stand before the part that is read: one where the text begins with a line `%%`.
-pub(crate) fn lines_before(text: &[u8]) -> usize {
+pub(crate) fn lines_before(text: &[u8]) -> usize
+    ensures { result ≡ lines_before text.now }
+{
     if without_divider(text).len() < text.len() {
         1
     } else {
@@ -71,7 +75,7 @@ pub(crate) fn lines_of(alloc: Global, text: &[u8]) -> Result<Vec<Line<'_>>, Allo
 }
 
 /// The lines of a text that say something.
-pub(crate) fn lines_said(alloc: Global, text: &[u8]) -> Result<Vec<Line<'_>>, AllocError> {
+pub fn lines_said(alloc: Global, text: &[u8]) -> Result<Vec<Line<'_>>, AllocError> {
     let mut said = Vec::new(alloc);
     for line in &lines_of(alloc, text)? {
         if !is_blank(line.text) {
@@ -81,8 +85,10 @@ pub(crate) fn lines_said(alloc: Global, text: &[u8]) -> Result<Vec<Line<'_>>, Al
     Ok(said)
 }
 
-/// The line at that place.
-pub(crate) fn line_at<'a>(lines: &[Line<'a>], place: usize) -> Line<'a> {
+/// The line at that place. Where there is none, it has the number 0, and no bytes.
+pub fn line_at<'a>(lines: &[Line<'a>], place: usize) -> Line<'a>
+    ensures { shape_of result ≡ unwrap_or (option_map shape_of (slice_get lines.now place)) no_line }
+{
     match lines.get(place) {
         Some(line) => *line,
         None => Line {
@@ -93,23 +99,46 @@ pub(crate) fn line_at<'a>(lines: &[Line<'a>], place: usize) -> Line<'a> {
 }
 
 /// Whether the line has nothing but blanks and tabs.
-pub(crate) fn is_blank(line: &[u8]) -> bool {
+fn is_blank(line: &[u8]) -> bool
+    ensures { result ≡ is_blank line.now }
+{
     line.iter().all(|byte| *byte == b' ' || *byte == b'\t')
 }
 
 /// Adds the number of a line, and the line.
-pub(crate) fn push_line(page: &mut Page, line: Line<'_>) -> Result<(), AllocError> {
-    page.words("line ")?;
-    page.number(line.number as u64)?;
-    page.words(": ")?;
-    for byte in line.text.iter().take(MOST_SHOWN) {
-        page.shown(*byte)?;
+pub(crate) fn push_line(writer: &mut Writer, line: Line<'_>) -> Result<(), AllocError> {
+    writer.words("line ")?;
+    writer.number(line.number as u64)?;
+    writer.words(": ")?;
+    writer.shown(front(line.text))?;
+    writer.words("\n")
+}
+
+/// Adds a line as members of an object, if there is one.
+pub(crate) fn push_line_members(
+    writer: &mut Writer,
+    line: Option<Line<'_>>,
+) -> Result<(), AllocError>
+    ensures { OnOk result (writer.new.text.items ≡ writer.old.text.items ++ line_members (option_map shape_of line.entry)) }
+{
+    match line {
+        Some(line) => {
+            writer.number_member("line", line.number as u64)?;
+            writer.text_member("text", line.text)
+        }
+        None => Ok(()),
     }
-    page.words("\n")
+}
+
+/// The front of a line that is shown.
+pub(crate) fn front(line: &[u8]) -> &[u8] {
+    &line[..MOST_SHOWN.min(line.len())]
 }
 
 /// The line that is refused. Refusals count lines from 0, without a first line `%%`.
-pub(crate) fn line_refused<'a>(lines: &[Line<'a>], refusal: RecordRefusal) -> Option<Line<'a>> {
+pub(crate) fn line_refused<'a>(lines: &[Line<'a>], refusal: RecordRefusal) -> Option<Line<'a>>
+    ensures { option_map shape_of result ≡ line_refused (map shape_of lines.now) refusal }
+{
     match refusal {
         RecordRefusal::BadLine { line } | RecordRefusal::Label { line } => match lines.get(
             line as usize,
