@@ -1,3 +1,3 @@
-pub mod BeginLemmas
+pub mod BookLemmas
 pub mod PeopleLemmas
 pub mod DueLemmas

@@ -1,11 +1,11 @@
 -- Users by their numbers, and claims by the entries that gave them.
-use Rattle.std.proofs.Common.{◌≡◌, ◌⊎◌, inl, inr, ⊎_elim, ◌<◌, ◌+◌, ◌-◌, ◌≤◌, ℕ, zero, suc, List, [], ◌∷◌, ◌++◌, length, map, take, get_or, Some, None, refl, sym, ap, subst, ◌∙◌, arith, length-append}
-use Rattle.std.specs.Prelude.{slice_get, codes}
+use Rattle.std.proofs.Common.{◌≡◌, ◌⊎◌, inl, inr, ⊎_elim, ◌<◌, ◌+◌, ◌-◌, ◌≤◌, ℕ, Bool, true, false, zero, suc, List, [], ◌∷◌, ◌++◌, length, map, take, get_or, Some, None, refl, sym, ap, subst, ◌∙◌, arith, length-append}
+use Rattle.std.specs.Prelude.{slice_get, codes, if◌then◌else◌}
 use Rattle.std.specs.Option.{unwrap_or}
 use Rattle.std.proofs.lemmas.List.{take_more, take_all, map-append}
 use Rattle.flow_model.specs.Lists.{◌∈◌}
 use Rattle.flow_case.specs.RulesOf.{IsUser}
-use Rattle.flow_case_book.specs.People.{name_of}
+use Rattle.flow_case_book.specs.People.{name_of, IsNumberOf}
 use Rattle.flow_model.proofs.Lists.{mem-append}
 
 -- one more of a list whose members are seen through f
@@ -68,3 +68,17 @@ none_past (y ∷ ys) (suc k) past = none_past ys k (omega (arith, past))
 pub unnamed : (names : List (List ℕ)) (number : ℕ) → ¬ (number ≡ 0) → length names ≤ number - 1 → codes "nobody" ≡ name_of names number
 unnamed names zero some past = absurd (some refl)
 unnamed names (suc k) some past = ap (λ o. unwrap_or o (codes "nobody")) (sym (none_past names k (omega (arith, past))))
+
+-- the number of who speaks
+
+pub speaks_known : (others : Bool) (names : List (List ℕ)) (name : List ℕ) (number : ℕ) → IsUser names number name → IsNumberOf others names name number
+speaks_known others names name number user = inl user
+
+pub speaks_none : (others : Bool) (names : List (List ℕ)) (name : List ℕ) (number : ℕ) → ¬ (name ∈ names) → others ≡ false → number ≡ 0 → IsNumberOf others names name number
+speaks_none others names name number unknown is none =
+    inr (unknown, subst (λ (b : Bool). number ≡ (if b then length names + 1 else 0)) (sym is) none)
+
+pub speaks_next : (others : Bool) (names after : List (List ℕ)) (name : List ℕ) (number : ℕ) → ¬ (name ∈ names) → others ≡ true → after ≡ names ++ name ∷ [] → number ≡ length after →
+    IsNumberOf others names name number
+speaks_next others names after name number unknown is more count =
+    inr (unknown, subst (λ (b : Bool). number ≡ (if b then length names + 1 else 0)) (sym is) (count ∙ ap length more ∙ length-append names (name ∷ [])))

@@ -1,6 +1,5 @@
-pub mod Begun
-pub mod Stops
 pub mod Texts
 pub mod People
 pub mod Due
 pub mod Held
+pub mod Unopened

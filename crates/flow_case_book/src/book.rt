@@ -1,9 +1,12 @@
 //! A case whose entries and lines are kept before they are told.
-ghost use Rattle.std.specs.Prelude.{◌≡◌, ◌⊎◌, ◌-◌, ◌^◌, ◌<◌, ◌∷◌, ◌++◌, [], ℕ, List, ◌↔◌, ◌+◌, Err, false, true, length, IfOk, OnOk};
+ghost use Rattle.std.specs.Prelude.{◌≡◌, ◌⊎◌, ◌-◌, ◌^◌, ◌<◌, ◌∷◌, ◌++◌, [], ℕ, List, ◌↔◌, ◌+◌, Err, false, true, length, IsTrue, IfOk, OnOk, OnErr};
 ghost use Rattle.std.specs.Result.{IsErrOf, is_err};
 ghost use Rattle.std.specs.String.{string_bytes};
 ghost use Rattle.hex.specs.Hex.{encode_lower};
 ghost use Rattle.flow_ask.specs.declared.refusal.Refusal.TheVariants as refusal;
+ghost use Rattle.std.specs.Coded.{Coded-set};
+ghost use Rattle.flow_core.specs.Run.{run_code};
+ghost use Rattle.flow_core.specs.Holding.{IsTakeable};
 ghost use Rattle.flow_case.specs.CaseRun.{run_of, CaseAnswers};
 ghost use Rattle.flow_keep.specs.Answered.{KeepAnswers, LeavesKept};
 ghost use Rattle.flow_keep.specs.Records.{Keeps};
@@ -12,14 +15,17 @@ ghost use Rattle.flow_trail.specs.Due.{Entered, Tells, IsOther, IsMissing};
 ghost use Rattle.flow_case_cli.specs.Held as cli;
 ghost use Rattle.flow_case_cli.specs.Line.{TellsEntry};
 ghost use Rattle.flow_case_cli.specs.Asked.{TellsLine, IsToldFirst};
+ghost use Rattle.flow_case.specs.declared.case_run.CaseRun.{CaseRun as RunOf};
+ghost use Rattle.flow_case_begin.specs.Begun.{IsCaseOf};
+ghost use Rattle.flow_case_book.specs.Texts.{policy_in};
 ghost use Rattle.flow_case_book.specs.Due.{AreDueOf};
 
 use crate::dues::dues;
-use crate::fresh::case_with;
 use crate::names::Names;
 use crate::opened::KeptTexts;
 use flow_ask::{Answer, Ask, Refusal};
 use flow_case::CaseRun;
+use flow_case_begin::case_with;
 use flow_case_cli::{Asker, Case};
 use flow_case_talk::{Book, Form, Reply, Speaker, Told, respond};
 use flow_core::Core;
@@ -38,8 +44,16 @@ pub struct CaseBook<D: Disk, T: Disk> {
     /// For each entry of the history, the line of the trail that tells it. It is shorter where memory was wanting.
     pub(crate) lines: Vec<usize>,
     pub(crate) names: Names,
+    ghost of_texts: { (begun : RunOf) → IsCaseOf texts.workflow.items (policy_in texts) begun → run_of begun ≡ record (run_of (cli.case_of case)) { history = [] } } by { Prim.hlevel (Coded-set run_code) },
     ghost entry_faults: { cli.is_broken case ≡ false → D.faults (cli.keep_disk case) < 2 ^ 64 - 1 },
     ghost line_faults: { cli.is_broken case ≡ false → T.faults (cli.trail_disk case) < 2 ^ 64 - 1 },
+}
+
+/// Whether a claim on the leaf may be given now.
+fn may_take(core: &Core, leaf: u32) -> bool
+    ensures { IsTrue result ↔ IsTakeable core.now leaf }
+{
+    core.may_take(leaf).is_ok()
 }
 
 /// Notes the line that tells the last entry, where one came.
@@ -50,15 +64,24 @@ fn note_line(lines: &mut Vec<usize>, before: usize, count: usize, line: usize) {
 }
 
 impl<D: Disk, T: Disk> CaseBook<D, T> {
-    ghost use Rattle.flow_case_book.specs.Held.{case_of, keep_disk, trail_disk, start_of, said_in, is_broken, names_in};
+    ghost use Rattle.flow_case_book.specs.Held.{case_of, keep_disk, trail_disk, start_of, said_in, is_broken, names_in, kept_of, is_tidied, is_open};
+    ghost use Rattle.flow_case_book.specs.People.{IsNumberOf};
+    ghost use Rattle.flow_record.specs.Words.{words_of};
+    ghost use Rattle.flow_names.specs.Grammar.{said_by};
+    ghost use Rattle.flow_case_talk.specs.Means.{LineMeans, LineBegins};
 
     /// Replies to a line. When it returns, each entry that the case has is on the disk, and the line that tells it.
+    #[tactic(auto, using(flow_case_talk::proofs::PlanLemmas::line_stays))]
     pub fn reply(&mut self, asker: Asker<'_>, line: &[u8], form: Form) -> Result<Reply, AllocError>
         ensures entries { D.tells → is_broken self.new ≡ false → (c : List ℕ) → D.image (keep_disk self.new) (D.moment (keep_disk self.new)) c →
             Keeps (run_of (case_of self.new)).history c }
         ensures lines { T.tells → is_broken self.new ≡ false → (c : List ℕ) → T.image (trail_disk self.new) (T.moment (trail_disk self.new)) c →
             Says (start_of self.new) (said_in self.new) c }
         ensures told { is_broken self.new ≡ false → (end_of (start_of self.new) (said_in self.new)).count ≡ length (run_of (case_of self.new)).history }
+        // the entries are those of what the line means, by its speaker
+        ensures means { IfOk result (λ reply. (by : ℕ) × IsNumberOf (is_open self.old) (names_in self.old) asker.entry.name.now by
+            × LineMeans (is_tidied self.old) by (kept_of self.old) (said_by (words_of line.now)) reply.outcome (kept_of self.new)) }
+        ensures begins { OnErr result ((by : ℕ) × LineBegins by (kept_of self.old) (said_by (words_of line.now)) (kept_of self.new)) }
     {
         let known = self.names.count() as usize;
         let before = self.core().history().len();
@@ -107,7 +130,10 @@ impl<D: Disk, T: Disk> CaseBook<D, T> {
     }
 
     /// Another run with the same history, which is not kept.
-    fn twin(&self, alloc: Global) -> Result<CaseRun, AllocError> {
+    #[tactic(auto, using(crate::proofs::BookLemmas::twin_run))]
+    fn twin(&self, alloc: Global) -> Result<CaseRun, AllocError>
+        ensures { IfOk result (λ twin. run_of twin ≡ run_of (case_of self.now)) }
+    {
         match case_with(alloc, self.texts.lent(), self.case.run().core().history()) {
             Ok(twin) => Ok(twin),
             Err(stop) => {
@@ -119,7 +145,12 @@ impl<D: Disk, T: Disk> CaseBook<D, T> {
 }
 
 impl<D: Disk, T: Disk> Book for CaseBook<D, T> {
-    ghost use Rattle.flow_case_book.specs.Held.{case_of, keep_disk, trail_disk, start_of, said_in, is_broken};
+    ghost use Rattle.flow_case_book.specs.Held.{case_of, keep_disk, trail_disk, start_of, said_in, is_broken, kept_of, is_tidied};
+    ghost use Rattle.flow_case_talk.specs.Means.{IsAnswered};
+
+    ghost kept_case = { kept_of };
+
+    ghost tidied = { is_tidied };
 
     fn path(&self) -> &str {
         self.texts.path.as_str()
@@ -184,13 +215,18 @@ impl<D: Disk, T: Disk> Book for CaseBook<D, T> {
         }
     }
 
+    #[tactic(auto, using(crate::proofs::BookLemmas::same_begun))]
     fn look_ahead(&mut self) {
         self.case.look_ahead();
     }
 
+    #[tactic(auto, using(crate::proofs::BookLemmas::takeable_now, crate::proofs::BookLemmas::none_before, crate::proofs::BookLemmas::steps_of_twin, crate::proofs::BookLemmas::same_begun))]
     fn steps_to_take(&mut self, alloc: Global, leaf: u32, by: u32) -> Result<Vec<u32>, AllocError> {
         self.case.look_ahead();
-        if self.core().may_take(leaf).is_ok() || !waits_for_step(self.core(), leaf) {
+        if may_take(self.core(), leaf) {
+            return Ok(Vec::new(alloc));
+        }
+        if !waits_for_step(self.core(), leaf) {
             return Ok(Vec::new(alloc));
         }
         let mut twin = self.twin(alloc)?;
@@ -199,6 +235,7 @@ impl<D: Disk, T: Disk> Book for CaseBook<D, T> {
         steps
     }
 
+    #[tactic(auto, using(crate::proofs::BookLemmas::tidy_of_twin, crate::proofs::BookLemmas::same_begun))]
     fn tidy_steps(&mut self, alloc: Global, by: u32) -> Result<Vec<u32>, AllocError> {
         let mut twin = self.twin(alloc)?;
         let steps = tidy_steps(alloc, &mut twin, by);
@@ -215,6 +252,7 @@ impl<D: Disk, T: Disk> Book for CaseBook<D, T> {
     }
 
     /// Ticks off the task that the entry at the place did, which is undone outside. The run stays as it is.
+    #[tactic(auto, using(crate::proofs::BookLemmas::same_begun))]
     fn tick_off(&mut self, task: &str, done: usize, speaker: Speaker<'_>) -> Result<(), Refusal>
         ensures broken { (result ≡ Err refusal.Broken) ↔ (is_broken self.old ≡ true) }
         ensures refused { is_broken self.old ≡ false → is_broken self.new ≡ is_err result }
@@ -234,8 +272,10 @@ impl<D: Disk, T: Disk> Book for CaseBook<D, T> {
     }
 
     /// Asks the case one thing. The entry that comes of it is told on the trail, then kept, and only then answered.
+    #[tactic(auto, using(crate::proofs::BookLemmas::asked_begun))]
     fn ask(&mut self, ask: Ask, speaker: Speaker<'_>) -> Answer
         ensures answer { KeepAnswers run_of CaseAnswers (is_broken self.old) (case_of self.old) ask speaker.entry.number result (is_broken self.new) (case_of self.new) }
+        ensures answered { IsAnswered (kept_of self.old) ask speaker.entry.number result (kept_of self.new) }
         ensures start { start_of self.new ≡ start_of self.old }
         // where no entry comes, nothing is written
         ensures idle { run_of (case_of self.new) ≡ run_of (case_of self.old) →

@@ -3,14 +3,11 @@
 
 mod book;
 mod dues;
-mod fresh;
 mod names;
 mod opened;
-mod stop;
 
 pub use book::CaseBook;
+pub use flow_case_begin::{CaseStop, CaseTexts, check_texts};
 pub use flow_case_cli::Asker;
 pub use flow_trail::VerifyRefusal;
-pub use fresh::{CaseTexts, check_texts};
 pub use opened::{KeptTexts, open_case};
-pub use stop::CaseStop;

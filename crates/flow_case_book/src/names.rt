@@ -18,7 +18,7 @@ pub(crate) struct Names {
 }
 
 impl Names {
-    ghost use Rattle.flow_case_book.specs.People.{names_in, name_of};
+    ghost use Rattle.flow_case_book.specs.People.{names_in, name_of, IsNumberOf};
 
     /// The users of a policy; or of a trail, in the order in which they first made an entry.
     pub(crate) fn of<D: Disk>(
@@ -56,7 +56,9 @@ impl Names {
     }
 
     /// The number of the user; 0 where the case knows no such user, and takes no other.
+    #[tactic(auto, using(crate::proofs::PeopleLemmas::speaks_known, crate::proofs::PeopleLemmas::speaks_none, crate::proofs::PeopleLemmas::speaks_next))]
     pub(crate) fn number_of(&mut self, alloc: Global, name: &str) -> Result<u32, AllocError>
+        ensures speaks { IfOk result (IsNumberOf self.old.open (names_in self.old) name.now) }
         ensures number { IfOk result (λ n. (n ≡ 0) ⊎ IsUser (names_in self.new) n name.now) }
         ensures unknown { IfOk result (λ n. (n ≡ 0) ↔ ((self.old.open ≡ false) × ¬ (name.now ∈ names_in self.old))) }
         ensures names { (names_in self.new ≡ names_in self.old) ⊎ ((self.old.open ≡ true) × ¬ (name.now ∈ names_in self.old)

@@ -1,5 +1,5 @@
 //! A case opened from its two disks.
-ghost use Rattle.std.specs.Prelude.{◌≡◌, ◌⊎◌, ◌-◌, ◌^◌, ◌<◌, ◌++◌, ◌∷◌, [], List, IfOk, false, length};
+ghost use Rattle.std.specs.Prelude.{◌≡◌, ◌⊎◌, ◌-◌, ◌^◌, ◌<◌, ◌++◌, ◌∷◌, [], List, IfOk, IfErr, false, length};
 ghost use Rattle.std.specs.Option.{option_map, unwrap_or};
 ghost use Rattle.std.specs.String.{string_bytes};
 ghost use Rattle.flow_model.specs.Lists.{AreDistinct};
@@ -15,17 +15,19 @@ ghost use Rattle.flow_trail.specs.Held as held;
 ghost use Rattle.flow_trail.specs.Lines.{Said, void, end_of, Says};
 ghost use Rattle.flow_trail.specs.Due.{first_end};
 ghost use Rattle.flow_case_cli.specs.Held as cli;
-ghost use Rattle.flow_case_book.specs.declared.fresh.TheConstants.{MOST_STEPS};
-ghost use Rattle.flow_case_book.specs.Begun.{IsBegunRun, IsCaseOf};
+ghost use Rattle.flow_case_begin.specs.declared.texts.TheConstants.{MOST_STEPS};
+ghost use Rattle.flow_case_begin.specs.declared.stop.CaseStop.TheVariants.{NoMemory};
+ghost use Rattle.flow_case_begin.specs.Begun.{IsBegunRun, IsCaseOf};
+ghost use Rattle.flow_case_begin.specs.Stops.{IsNoCaseIn};
+ghost use Rattle.flow_case_book.specs.Unopened.{IsUnkept, IsUntold, IsUnmade, IsNotTakenUp};
 ghost use Rattle.flow_case_book.specs.Texts.{policy_in};
 ghost use Rattle.flow_case_book.specs.Held.{case_of, said_in, is_broken};
 ghost use Rattle.flow_case_book.specs.Held as book;
 
 use crate::book::CaseBook;
-use crate::fresh::{Begun, CaseTexts, MOST_STEPS, begin, prepared};
 use crate::names::Names;
-use crate::stop::CaseStop;
 use flow_case::{CaseRun, Users};
+use flow_case_begin::{Begun, CaseStop, CaseTexts, MOST_STEPS, begin, prepared};
 use flow_case_cli::{Case, Unresumed};
 use flow_disk::Disk;
 use flow_form::Script;
@@ -56,6 +58,7 @@ fn open_keep<D: Disk + Drop>(
     ensures whole { IfOk result (λ keep. kept.is_broken keep ≡ false) }
     ensures faults { IfOk result (λ keep. D.faults (kept.disk_of keep) ≡ D.faults entries) }
     ensures history { D.tells → IfOk result (λ keep. Keeps (kept.run_of keep).history (D.seen entries)) }
+    ensures refused { D.tells → IfErr result (IsUnkept (said script.now) (D.seen entries)) }
 {
     let Prepared { workflow, compiled } = match prepared(alloc, script) {
         Ok(prepared) => prepared,
@@ -88,6 +91,7 @@ fn open_trail<T: Disk + Drop>(
     ensures faults { IfOk result (λ t. T.faults (held.disk_of t) ≡ T.faults trail) }
     ensures said { T.tells → IfOk result (λ t. (saying : List Said) × Says start saying (T.seen trail)
         × ((held.said_in t ≡ saying) ⊎ (held.said_in t ≡ saying ++ void (string_bytes at) ∷ []))) }
+    ensures refused { T.tells → IfErr result (IsUntold start count (T.seen trail)) }
 {
     match Trail::open(alloc, trail, start, count, at) {
         Ok(trail) => Ok(trail),
@@ -114,6 +118,7 @@ fn follow<D: Disk + Drop, T: Disk + Drop>(
     ensures trail { IfOk result (λ c. cli.trail_disk c ≡ held.disk_of trail) }
     ensures start { IfOk result (λ c. cli.start_of c ≡ held.start_of trail) }
     ensures said { IfOk result (λ c. cli.said_in c ≡ held.said_in trail) }
+    ensures refused { IfErr result (IsUnmade run (kept.run_of keep).history) }
 {
     match Case::resume(run, keep, trail) {
         Ok(case) => Ok(case),
@@ -126,6 +131,7 @@ fn follow<D: Disk + Drop, T: Disk + Drop>(
 }
 
 /// The case that the files keep, of what the script says. Its run is given as it begins.
+#[tactic(auto, using(crate::proofs::BookLemmas::not_told))]
 fn take_up<D: Disk + Drop, T: Disk + Drop>(
     alloc: Global,
     script: &Script,
@@ -146,6 +152,7 @@ fn take_up<D: Disk + Drop, T: Disk + Drop>(
         × ((cli.said_in c ≡ saying) ⊎ (cli.said_in c ≡ saying ++ void (string_bytes files.at) ∷ []))) }
     ensures entry_faults { IfOk result (λ c. D.faults (cli.keep_disk c) ≡ D.faults files.entries) }
     ensures line_faults { IfOk result (λ c. T.faults (cli.trail_disk c) ≡ T.faults files.trail) }
+    ensures refused { D.tells → T.tells → IfErr result (IsNotTakenUp (said script.now) run start (D.seen files.entries) (T.seen files.trail)) }
 {
     let CaseFiles { entries, trail, at } = files;
     let keep = match open_keep(alloc, script, entries) {
@@ -249,7 +256,9 @@ fn with_people<D: Disk + Drop, T: Disk + Drop>(
 ) -> Result<CaseBook<D, T>, CaseStop>
     requires entry_faults { D.faults (cli.keep_disk case) < 2 ^ 64 - 1 }
     requires line_faults { T.faults (cli.trail_disk case) < 2 ^ 64 - 1 }
-    ensures { IfOk result (λ b. b.case ≡ case) }
+    requires of_texts { (begun : Run) → IsCaseOf texts.workflow.items (policy_in texts) begun → run_of begun ≡ record (run_of (cli.case_of case)) { history = [] } }
+    ensures case { IfOk result (λ b. b.case ≡ case) }
+    ensures refused { IfErr result (λ stop. stop ≡ NoMemory) }
 {
     let found = people(alloc, users.as_ref(), case.trail());
     drop(users);
@@ -271,6 +280,7 @@ fn with_people<D: Disk + Drop, T: Disk + Drop>(
 
 /// Opens a case that is kept: its entries, and the trail that tells them. A line whose entry did not come gets its void line, with
 /// that time.
+#[tactic(auto, using(crate::proofs::BookLemmas::not_opened, crate::proofs::BookLemmas::no_texts, crate::proofs::BookLemmas::wanting, crate::proofs::BookLemmas::begins_as))]
 pub fn open_case<D: Disk + Drop, T: Disk + Drop>(
     alloc: Global,
     texts: KeptTexts,
@@ -288,6 +298,9 @@ pub fn open_case<D: Disk + Drop, T: Disk + Drop>(
     ensures said { T.tells → IfOk result (λ b. (saying : List Said) × Says (book.start_of b) saying (T.seen trail)
         × ((said_in b ≡ saying) ⊎ (said_in b ≡ saying ++ void (string_bytes at) ∷ []))) }
     ensures told { IfOk result (λ b. (end_of (book.start_of b) (said_in b)).count ≡ length (run_of (case_of b)).history) }
+    // each stop is told only where it is so
+    ensures refused { D.tells → T.tells → IfErr result (IsNoCaseIn texts.workflow.items (policy_in texts)
+        (first_end texts.workflow.items (unwrap_or (policy_in texts) [])) (D.seen entries) (T.seen trail)) }
 {
     let Begun { script, run, users } = match begin(alloc, texts.lent()) {
         Ok(begun) => begun,

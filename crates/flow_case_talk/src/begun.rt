@@ -1,4 +1,5 @@
 //! The tasks that may be begun: at once, or once the tests and updates before them are done.
+ghost use Rattle.std.specs.Prelude.{◌≡◌};
 
 use crate::book::Book;
 use flow_core::Core;
@@ -25,7 +26,9 @@ pub(crate) struct CaseTodo {
 }
 
 /// Looks what is to be done.
-pub(crate) fn case_todo<B: Book>(alloc: Global, book: &mut B) -> Result<CaseTodo, AllocError> {
+pub(crate) fn case_todo<B: Book>(alloc: Global, book: &mut B) -> Result<CaseTodo, AllocError>
+    ensures { B.kept_case book.new ≡ B.kept_case book.old }
+{
     book.look_ahead();
     let todo = todo_of(alloc, book.core())?;
     let begin = match todo.state {
@@ -45,7 +48,9 @@ fn beginnings<B: Book>(
     alloc: Global,
     book: &mut B,
     todo: &Todo,
-) -> Result<Vec<Beginning>, AllocError> {
+) -> Result<Vec<Beginning>, AllocError>
+    ensures { B.kept_case book.new ≡ B.kept_case book.old }
+{
     let mut begin = Vec::new(alloc);
     for leaf in 0..book.core().workflow().tree().leaves() {
         if let Some(steps) = way_to(alloc, book, todo, leaf)? {
@@ -61,7 +66,9 @@ fn way_to<B: Book>(
     book: &mut B,
     todo: &Todo,
     leaf: u32,
-) -> Result<Option<Vec<u32>>, AllocError> {
+) -> Result<Option<Vec<u32>>, AllocError>
+    ensures { B.kept_case book.new ≡ B.kept_case book.old }
+{
     if todo.begin.contains(&leaf) {
         return Ok(Some(Vec::new(alloc)));
     }

@@ -2,20 +2,20 @@
 
 use crate::asked::Asked;
 use crate::book::Book;
-use crate::page::Page;
 use flow_ask::{Ask, Refusal};
 use flow_case_why::{constraint_words, push_reason_members};
 use flow_policy::Tie;
 use flow_reason::{Reason, why_leaf};
 use flow_standing::doings;
 use flow_workflow::push_leaf_label;
+use flow_writer::Writer;
 use std::alloc::{AllocError, Global};
 
 /// Adds, behind the words of a refusal: the other task of a duty and who took it, who did a final task, or why a task cannot be taken
 /// or done now.
 pub(crate) fn push_details<B: Book>(
     alloc: Global,
-    page: &mut Page,
+    page: &mut Writer,
     book: &B,
     asked: &Asked,
 ) -> Result<(), AllocError> {
@@ -27,7 +27,7 @@ pub(crate) fn push_details<B: Book>(
         (Err(Refusal::Bind(index)), _) => push_tie(page, book, leaf, index, Kind::Bind),
         (Err(Refusal::Final { .. }), _) => push_doing(alloc, page, book, leaf),
         (Err(Refusal::NotEnabled | Refusal::TestFalse), Ask::Take(_) | Ask::Do(_)) => {
-            page.text(": ")?;
+            page.words(": ")?;
             push_reason(alloc, page, book, leaf)
         }
         _ => Ok(()),
@@ -43,7 +43,7 @@ enum Kind {
 
 /// Adds the other task of the duty, and who took it.
 fn push_tie<B: Book>(
-    page: &mut Page,
+    page: &mut Writer,
     book: &B,
     leaf: u32,
     index: u32,
@@ -64,30 +64,30 @@ fn push_tie<B: Book>(
 }
 
 /// Adds the other task of the tie, and who took it.
-fn push_other<B: Book>(page: &mut Page, book: &B, tie: Tie) -> Result<(), AllocError> {
-    page.text(" (")?;
+fn push_other<B: Book>(page: &mut Writer, book: &B, tie: Tie) -> Result<(), AllocError> {
+    page.words(" (")?;
     page.bytes(book.core().workflow().event_name(tie.other))?;
     if let Some(taker) = book.core().taker_of_event(tie.other) {
-        page.text(", which ")?;
-        page.text(book.user_name(taker))?;
-        page.text(" took")?;
+        page.words(", which ")?;
+        page.words(book.user_name(taker))?;
+        page.words(" took")?;
     }
-    page.text(")")
+    page.words(")")
 }
 
 /// Adds the entry by which the leaf was done, and by whom.
 fn push_doing<B: Book>(
     alloc: Global,
-    page: &mut Page,
+    page: &mut Writer,
     book: &B,
     leaf: u32,
 ) -> Result<(), AllocError> {
     for doing in doings(alloc, book.core())?.iter() {
         if doing.leaf == leaf {
-            page.text(": entry ")?;
+            page.words(": entry ")?;
             page.ordinal(doing.place)?;
-            page.text(", by ")?;
-            return page.text(book.user_name(doing.by));
+            page.words(", by ")?;
+            return page.words(book.user_name(doing.by));
         }
     }
     Ok(())
@@ -96,7 +96,7 @@ fn push_doing<B: Book>(
 /// Adds why the leaf is not taken or done now. Entries are counted from 1, as the history shows them.
 pub(crate) fn push_reason<B: Book>(
     alloc: Global,
-    page: &mut Page,
+    page: &mut Writer,
     book: &B,
     leaf: u32,
 ) -> Result<(), AllocError> {
@@ -106,7 +106,7 @@ pub(crate) fn push_reason<B: Book>(
 
 fn push_reason_words<B: Book>(
     alloc: Global,
-    page: &mut Page,
+    page: &mut Writer,
     book: &B,
     leaf: u32,
     reason: &Reason,
@@ -123,51 +123,51 @@ fn push_reason_words<B: Book>(
     };
     push_leaf_label(&mut words, book.core().workflow(), leaf)?;
     page.bytes(&words)?;
-    page.text(state)?;
+    page.words(state)?;
     page.ordinal(entry)?;
-    page.text(", by ")?;
-    page.text(book.user_name(user))
+    page.words(", by ")?;
+    page.words(book.user_name(user))
 }
 
 /// Adds the words of the constraints that the reason names.
 fn push_constraints<B: Book>(
     alloc: Global,
-    page: &mut Page,
+    page: &mut Writer,
     book: &B,
     reason: &Reason,
 ) -> Result<(), AllocError> {
     let Reason::WaitsByConstraints { constraints, .. } = reason else {
         return Ok(());
     };
-    page.text(" (")?;
+    page.words(" (")?;
     for (index, number) in constraints.iter().enumerate() {
         page.between(index, "; ")?;
-        page.number(*number)?;
-        page.text(": ")?;
+        page.number(u64::from(*number))?;
+        page.words(": ")?;
         page.bytes(&constraint_words(alloc, book.workflow_text(), *number)?)?;
     }
-    page.text(")")
+    page.words(")")
 }
 
 /// Adds the member `why`: the reason why the leaf is not taken or done now.
 pub(crate) fn push_why<B: Book>(
     alloc: Global,
-    page: &mut Page,
+    page: &mut Writer,
     book: &B,
     leaf: u32,
 ) -> Result<(), AllocError> {
     let reason = why_leaf(alloc, book.core(), leaf)?;
     let mut label = Vec::new(alloc);
     push_leaf_label(&mut label, book.core().workflow(), leaf)?;
-    page.member("why")?;
-    page.text("[{\"leaf\":")?;
-    page.number(leaf)?;
-    page.member("task")?;
-    page.quoted(&label)?;
+    page.key("why")?;
+    page.words("[{\"leaf\":")?;
+    page.number(u64::from(leaf))?;
+    page.key("task")?;
+    page.quoted_text(&label)?;
     let mut members = Vec::new(alloc);
     push_reason_members(&mut members, &reason)?;
     page.bytes(&members)?;
-    page.text("}]")
+    page.words("}]")
 }
 
 /// The user who made the entry at the place.

@@ -2,12 +2,15 @@
 #![tactic(auto)]
 
 mod asked;
+mod asking;
 mod begun;
 mod book;
 mod details;
+mod form;
 mod lines;
 mod looks;
-mod page;
+mod made;
+mod plan;
 mod refused;
 mod reply;
 mod ticks;
@@ -15,6 +18,6 @@ mod todo;
 mod who;
 
 pub use book::{Book, Speaker, Told};
-pub use page::Form;
+pub use form::Form;
 pub use reply::{Outcome, Reply, respond};
 pub use todo::{begin_line, idle_lines};

@@ -1,6 +1,8 @@
+ghost use Rattle.std.specs.Prelude.{◌≡◌};
+
 use crate::book::{Book, Told};
 use crate::details::{push_reason, push_why};
-use crate::page::{Form, Page};
+use crate::form::Form;
 use crate::ticks::undone_text;
 use crate::todo::{label_of, todo_text};
 use flow_ask::Look;
@@ -8,6 +10,8 @@ use flow_model::{Entry, Step};
 use flow_names::Command;
 use flow_record::print_history;
 use flow_reply::{print_look, print_report, verdict_of};
+use flow_writer::Writer;
+use itoa::Buffer;
 use std::alloc::{AllocError, Global};
 
 /// What a command shows that asks nothing of the run.
@@ -16,7 +20,9 @@ pub(crate) fn look_text<B: Book>(
     book: &mut B,
     command: &Command,
     form: Form,
-) -> Result<Vec<u8>, AllocError> {
+) -> Result<Vec<u8>, AllocError>
+    ensures { B.kept_case book.new ≡ B.kept_case book.old }
+{
     match command {
         Command::Todo => todo_text(alloc, book, form),
         Command::History => history_text(alloc, book, form),
@@ -41,19 +47,19 @@ pub(crate) fn shown(
     words: &[u8],
     end: &str,
 ) -> Result<Vec<u8>, AllocError> {
-    let mut page = Page::new(alloc);
+    let mut page = Writer::new(alloc);
     match form {
         Form::Words => {
             page.bytes(words)?;
-            page.text(end)?;
+            page.words(end)?;
         }
         Form::Json => {
-            page.text("{\"ok\":true,\"reply\":")?;
-            page.quoted(words)?;
-            page.text("}\n")?;
+            page.words("{\"ok\":true,\"reply\":")?;
+            page.quoted_text(words)?;
+            page.words("}\n")?;
         }
     }
-    Ok(page.into_text())
+    Ok(page.text)
 }
 
 /// Why the leaf is not taken or done now.
@@ -62,26 +68,28 @@ pub(crate) fn why_text<B: Book>(
     book: &mut B,
     leaf: u32,
     form: Form,
-) -> Result<Vec<u8>, AllocError> {
+) -> Result<Vec<u8>, AllocError>
+    ensures { B.kept_case book.new ≡ B.kept_case book.old }
+{
     book.look_ahead();
-    let mut words = Page::new(alloc);
+    let mut words = Writer::new(alloc);
     push_reason(alloc, &mut words, book, leaf)?;
-    let words = words.into_text();
-    let mut page = Page::new(alloc);
+    let words = words.text;
+    let mut page = Writer::new(alloc);
     match form {
         Form::Words => {
             page.bytes(&words)?;
-            page.text("\n")?;
+            page.words("\n")?;
         }
         Form::Json => {
-            page.text("{\"ok\":true")?;
+            page.words("{\"ok\":true")?;
             push_why(alloc, &mut page, book, leaf)?;
-            page.member("reply")?;
-            page.quoted(&words)?;
-            page.text("}\n")?;
+            page.key("reply")?;
+            page.quoted_text(&words)?;
+            page.words("}\n")?;
         }
     }
-    Ok(page.into_text())
+    Ok(page.text)
 }
 
 /// The leaves on which claims were given, by the numbers of these, which begin at 1.
@@ -125,76 +133,85 @@ fn step_word(step: Step) -> &'static str {
 /// The history, a line an entry: its number, when, who, what, the note.
 fn history_text<B: Book>(alloc: Global, book: &B, form: Form) -> Result<Vec<u8>, AllocError> {
     let taken = leaves_taken(alloc, book)?;
-    let mut page = Page::new(alloc);
+    let mut page = Writer::new(alloc);
     if form == Form::Words {
-        page.text("   n  when                  who       what\n")?;
+        page.words("   n  when                  who       what\n")?;
     }
     for (place, entry) in book.core().history().iter().enumerate() {
         match form {
             Form::Words => push_entry(alloc, &mut page, book, &taken, place, *entry)?,
             Form::Json => push_entry_object(alloc, &mut page, book, &taken, place, *entry)?,
         }
-        page.text("\n")?;
+        page.words("\n")?;
     }
-    Ok(page.into_text())
+    Ok(page.text)
+}
+
+/// Adds the number of an entry, to the right of its column.
+fn push_place(page: &mut Writer, place: usize) -> Result<(), AllocError> {
+    let mut digits = Buffer::new();
+    let number = digits.format((place as u64).saturating_add(1));
+    page.blanks(4usize.saturating_sub(number.len()))?;
+    page.words(number)?;
+    page.words("  ")
 }
 
 fn push_entry<B: Book>(
     alloc: Global,
-    page: &mut Page,
+    page: &mut Writer,
     book: &B,
     taken: &[u32],
     place: usize,
     entry: Entry,
 ) -> Result<(), AllocError> {
-    page.place(place)?;
+    push_place(page, place)?;
     let told = book.told(place);
     if let Some(told) = told {
         page.column(told.at.as_bytes(), 20)?;
         page.column(told.by.as_bytes(), 8)?;
     }
-    let mut what = Page::new(alloc);
-    what.text(step_word(entry.step))?;
+    let mut what = Writer::new(alloc);
+    what.words(step_word(entry.step))?;
     if let Some(leaf) = leaf_of_entry(taken, entry) {
-        what.text(" ")?;
+        what.words(" ")?;
         what.bytes(&label_of(alloc, book, leaf)?)?;
     }
     match told {
         Some(told) if told.note != "" => {
-            page.column(&what.into_text(), 24)?;
-            page.text(told.note)
+            page.column(&what.text, 24)?;
+            page.words(told.note)
         }
-        _ => page.bytes(&what.into_text()),
+        _ => page.bytes(&what.text),
     }
 }
 
 fn push_entry_object<B: Book>(
     alloc: Global,
-    page: &mut Page,
+    page: &mut Writer,
     book: &B,
     taken: &[u32],
     place: usize,
     entry: Entry,
 ) -> Result<(), AllocError> {
-    page.text("{\"n\":")?;
+    page.words("{\"n\":")?;
     page.ordinal(place)?;
     if let Some(told) = book.told(place) {
-        page.member("at")?;
-        page.quoted(told.at.as_bytes())?;
-        page.member("by")?;
-        page.quoted(told.by.as_bytes())?;
+        page.key("at")?;
+        page.quoted_text(told.at.as_bytes())?;
+        page.key("by")?;
+        page.quoted_text(told.by.as_bytes())?;
     }
-    page.member("did")?;
-    page.quoted(step_word(entry.step).as_bytes())?;
+    page.key("did")?;
+    page.quoted_text(step_word(entry.step).as_bytes())?;
     if let Some(leaf) = leaf_of_entry(taken, entry) {
-        page.member("task")?;
-        page.quoted(&label_of(alloc, book, leaf)?)?;
+        page.key("task")?;
+        page.quoted_text(&label_of(alloc, book, leaf)?)?;
     }
     if let Some(Told { note, .. }) = book.told(place) {
         if note != "" {
-            page.member("note")?;
-            page.quoted(note.as_bytes())?;
+            page.key("note")?;
+            page.quoted_text(note.as_bytes())?;
         }
     }
-    page.text("}")
+    page.words("}")
 }

@@ -1,13 +1,17 @@
 //! What steps back took, and what of it is ticked off as undone outside.
 
+ghost use Rattle.std.specs.Prelude.{◌≡◌};
+
 use crate::asked::push_taken;
 use crate::book::{Book, Speaker};
-use crate::page::{Form, Page};
+use crate::form::Form;
+use crate::made::push_reply;
 use crate::todo::label_of;
 use flow_ask::Refusal;
 use flow_case_words::print_refusal;
 use flow_names::{ClaimRef, TaskRef};
 use flow_standing::{TakenBack, taken_back};
+use flow_writer::Writer;
 use std::alloc::{AllocError, Global};
 
 /// What steps back took, and is not ticked off.
@@ -61,34 +65,60 @@ pub(crate) fn undone_text<B: Book>(
     book: &B,
     form: Form,
 ) -> Result<Vec<u8>, AllocError> {
-    let mut page = Page::new(alloc);
+    let mut page = Writer::new(alloc);
     let left = left_to_undo(alloc, book)?;
     for taken in left.iter() {
         match form {
             Form::Words => push_taken(alloc, &mut page, book, taken)?,
             Form::Json => push_taken_object(alloc, &mut page, book, taken)?,
         }
-        page.text("\n")?;
+        page.words("\n")?;
     }
     if left.is_empty() && form == Form::Words {
-        page.text("nothing is to be undone\n")?;
+        page.words("nothing is to be undone\n")?;
     }
-    Ok(page.into_text())
+    Ok(page.text)
 }
 
 fn push_taken_object<B: Book>(
     alloc: Global,
-    page: &mut Page,
+    page: &mut Writer,
     book: &B,
     taken: &TakenBack,
 ) -> Result<(), AllocError> {
-    page.text("{\"task\":")?;
-    page.quoted(&label_of(alloc, book, taken.leaf)?)?;
-    page.member("claim")?;
-    page.number(taken.claim)?;
-    page.member("by")?;
-    page.quoted(book.user_name(taken.by).as_bytes())?;
-    page.text("}")
+    page.words("{\"task\":")?;
+    page.quoted_text(&label_of(alloc, book, taken.leaf)?)?;
+    page.key("claim")?;
+    page.number(u64::from(taken.claim))?;
+    page.key("by")?;
+    page.quoted_text(book.user_name(taken.by).as_bytes())?;
+    page.words("}")
+}
+
+/// That what was taken back is ticked off, of which these are the words.
+pub(crate) fn ticked_text<B: Book>(
+    alloc: Global,
+    book: &B,
+    taken: &TakenBack,
+    words: &[u8],
+    form: Form,
+) -> Result<Vec<u8>, AllocError> {
+    let mut page = Writer::new(alloc);
+    match form {
+        Form::Words => {
+            page.bytes(words)?;
+            page.words("\n")?;
+        }
+        Form::Json => {
+            page.words("{\"ok\":true,\"entries\":[]")?;
+            page.key("task")?;
+            page.quoted_text(&label_of(alloc, book, taken.leaf)?)?;
+            page.key("claim")?;
+            page.number(u64::from(taken.claim))?;
+            push_reply(&mut page, words)?;
+        }
+    }
+    Ok(page.text)
 }
 
 /// Ticks off what was taken back. Where that cannot be kept, it tells why, and in words too.
@@ -97,7 +127,9 @@ pub(crate) fn tick_off<B: Book>(
     book: &mut B,
     speaker: Speaker<'_>,
     taken: &TakenBack,
-) -> Result<(Result<(), Refusal>, Vec<u8>), AllocError> {
+) -> Result<(Result<(), Refusal>, Vec<u8>), AllocError>
+    ensures { (B.kept_case book.new).run ≡ (B.kept_case book.old).run }
+{
     let task = label_of(alloc, book, taken.leaf)?;
     let kept = match str::from_utf8(&task) {
         Ok(name) => book.tick_off(name, taken.done, speaker),
@@ -112,10 +144,10 @@ pub(crate) fn tick_off<B: Book>(
 
 /// That the task is ticked off.
 fn ticked_words(alloc: Global, task: &[u8], claim: u32) -> Result<Vec<u8>, AllocError> {
-    let mut page = Page::new(alloc);
+    let mut page = Writer::new(alloc);
     page.bytes(task)?;
-    page.text(" (claim ")?;
-    page.number(claim)?;
-    page.text(") is undone outside")?;
-    Ok(page.into_text())
+    page.words(" (claim ")?;
+    page.number(u64::from(claim))?;
+    page.words(") is undone outside")?;
+    Ok(page.text)
 }

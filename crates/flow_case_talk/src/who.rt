@@ -2,21 +2,21 @@
 
 use crate::begun::is_left_to_nobody;
 use crate::book::Book;
-use crate::page::Page;
 use flow_policy::Policy;
 use flow_staff::roles_allowed;
+use flow_writer::Writer;
 use std::alloc::{AllocError, Global};
 
 /// Who may take the leaf's task, in a case with a policy: the roles that are allowed it, and whom duties leave it to now.
 pub(crate) fn who_may<B: Book>(alloc: Global, book: &B, leaf: u32) -> Result<Vec<u8>, AllocError> {
-    let mut page = Page::new(alloc);
+    let mut page = Writer::new(alloc);
     push_who(alloc, &mut page, book, leaf)?;
-    Ok(page.into_text())
+    Ok(page.text)
 }
 
 fn push_who<B: Book>(
     alloc: Global,
-    page: &mut Page,
+    page: &mut Writer,
     book: &B,
     leaf: u32,
 ) -> Result<(), AllocError> {
@@ -30,7 +30,7 @@ fn push_who<B: Book>(
         None => push_separate(page, book, policy, event)?,
     }
     if is_left_to_nobody(book, leaf) {
-        page.text("; nobody now")?;
+        page.words("; nobody now")?;
     }
     Ok(())
 }
@@ -38,13 +38,13 @@ fn push_who<B: Book>(
 /// Adds the roles that are allowed the event.
 fn push_roles(
     alloc: Global,
-    page: &mut Page,
+    page: &mut Writer,
     policy: &[u8],
     event: &[u8],
 ) -> Result<(), AllocError> {
     let roles = roles_allowed(alloc, policy, event)?;
     if roles.is_empty() {
-        return page.text("no role");
+        return page.words("no role");
     }
     for (index, role) in roles.iter().enumerate() {
         page.between(index, ", ")?;
@@ -65,20 +65,20 @@ fn bound_to<B: Book>(book: &B, policy: &Policy, event: u32) -> Option<(u32, u32)
 
 /// Adds who has the other event, to which this one is bound.
 fn push_bound<B: Book>(
-    page: &mut Page,
+    page: &mut Writer,
     book: &B,
     other: u32,
     taker: u32,
 ) -> Result<(), AllocError> {
-    page.text("; ")?;
-    page.text(book.user_name(taker))?;
-    page.text(" alone, bound to ")?;
+    page.words("; ")?;
+    page.words(book.user_name(taker))?;
+    page.words(" alone, bound to ")?;
     page.bytes(book.core().workflow().event_name(other))
 }
 
 /// Adds who has a role for the event, and is kept from it by another event.
 fn push_separate<B: Book>(
-    page: &mut Page,
+    page: &mut Writer,
     book: &B,
     policy: &Policy,
     event: u32,
@@ -86,9 +86,9 @@ fn push_separate<B: Book>(
     for tie in policy.separations(event) {
         if let Some(taker) = book.core().taker_of_event(tie.other) {
             if policy.has_role(taker, event) {
-                page.text("; not ")?;
-                page.text(book.user_name(taker))?;
-                page.text(", separate from ")?;
+                page.words("; not ")?;
+                page.words(book.user_name(taker))?;
+                page.words(", separate from ")?;
                 page.bytes(book.core().workflow().event_name(tie.other))?;
             }
         }

@@ -11,8 +11,8 @@ ghost use Rattle.flow_plan.specs.Compilation.{IsCompiled};
 ghost use Rattle.flow_case.specs.declared.case_run.CaseRun.{CaseRun as Case};
 ghost use Rattle.flow_case.specs.CasePolicy.{IsCasePolicyOf};
 ghost use Rattle.flow_case.specs.CaseRun.{case_with as run_with};
-ghost use Rattle.flow_case_book.specs.Begun.{IsBegunRun, IsBegun, IsCaseOf};
-ghost use Rattle.flow_case_book.specs.Stops.{IsUnread, IsUnbegun, IsUngoverned, IsUnbegunBy, IsNoCaseOf};
+ghost use Rattle.flow_case_begin.specs.Begun.{IsBegunRun, IsBegun, IsCaseOf};
+ghost use Rattle.flow_case_begin.specs.Stops.{IsUnread, IsUnbegun, IsUngoverned, IsUnbegunBy, IsNoCaseOf};
 
 use crate::stop::CaseStop;
 use flow_case::{CasePolicy, CaseRun, Users, case_policy_of};
@@ -33,7 +33,7 @@ pub struct CaseTexts<'a> {
 }
 
 /// The greatest length of a history.
-pub(crate) const MOST_STEPS: u32 = 65_536;
+pub const MOST_STEPS: u32 = 65_536;
 
 /// What the text of a workflow says.
 fn script_of(alloc: Global, text: &[u8]) -> Result<Script, CaseStop>
@@ -67,7 +67,7 @@ fn policy_of(
 }
 
 /// The workflow that the script says, compiled.
-pub(crate) fn prepared(alloc: Global, script: &Script) -> Result<Prepared, CaseStop>
+pub fn prepared(alloc: Global, script: &Script) -> Result<Prepared, CaseStop>
     requires { IsClosed (said script.now) }
     ensures expanded { IfOk result (λ p. IsExpanded (said script.now) p.workflow) }
     ensures compiled { IfOk result (λ p. IsCompiled (schema_of p.workflow) p.compiled) }
@@ -110,7 +110,7 @@ fn governed(
 }
 
 /// The case of what the script says, with no entry yet, and its users where it has a policy.
-fn case_begun(
+pub fn case_begun(
     alloc: Global,
     script: &Script,
     policy: Option<&[u8]>,
@@ -128,16 +128,16 @@ fn case_begun(
 
 /// What the texts of a case say.
 #[derive(Drop)]
-pub(crate) struct Begun {
-    pub(crate) script: Script,
+pub struct Begun {
+    pub script: Script,
     /// The case with no entry yet.
-    pub(crate) run: CaseRun,
+    pub run: CaseRun,
     /// None where the case has no policy.
-    pub(crate) users: Option<Users>,
+    pub users: Option<Users>,
 }
 
 /// What the texts of a case say.
-pub(crate) fn begin(alloc: Global, texts: CaseTexts<'_>) -> Result<Begun, CaseStop>
+pub fn begin(alloc: Global, texts: CaseTexts<'_>) -> Result<Begun, CaseStop>
     ensures says { IfOk result (λ b. Says texts.entry.workflow.now (said b.script)) }
     ensures closed { IfOk result (λ b. IsClosed (said b.script)) }
     ensures begun { IfOk result (λ b. IsBegun (said b.script) (option_map bytes_now texts.entry.policy) b.run) }
@@ -154,7 +154,7 @@ pub(crate) fn begin(alloc: Global, texts: CaseTexts<'_>) -> Result<Begun, CaseSt
 }
 
 /// The case of the texts with these entries.
-pub(crate) fn case_with(
+pub fn case_with(
     alloc: Global,
     texts: CaseTexts<'_>,
     entries: &[Entry],

@@ -9,7 +9,7 @@ use Rattle.flow_core.specs.Run.{Run}
 use Rattle.flow_case.specs.declared.case_run.CaseRun.{CaseRun}
 use Rattle.flow_case.specs.declared.case_run.CaseRun.TheVariants.{Free, UnderPolicy}
 use Rattle.flow_case.specs.CasePolicy.{IsCasePolicyOf}
-use Rattle.flow_case_book.specs.declared.fresh.TheConstants.{MOST_STEPS}
+use Rattle.flow_case_begin.specs.declared.texts.TheConstants.{MOST_STEPS}
 
 -- the run of the workflow that is said, with no entry
 pub record IsBegunRun (s : Said) (r : Run) : Type 0 where
@@ -28,3 +28,10 @@ IsBegun s (Some policy) (UnderPolicy c) =
 -- the case of these texts, with no entry
 abbrev pub IsCaseOf : List ℕ → Option (List ℕ) → CaseRun → Type 0
 IsCaseOf workflow policy c = (s : Said) × Says workflow s × IsBegun s policy c
+
+-- the run is one of the workflow that the text says, whatever its entries are
+pub record IsRunOf (workflow : List ℕ) (r : Run) : Type 0 where
+  pub said : Said
+  pub says : Says workflow said
+  pub expanded : IsExpanded said r.definition
+  pub limit : r.limit ≡ MOST_STEPS

@@ -12,10 +12,14 @@ use Rattle.flow_case.specs.declared.case_run.CaseRun.{CaseRun}
 use Rattle.flow_case.specs.declared.case_run.CaseRun.TheVariants.{Free, UnderPolicy}
 use Rattle.flow_case.specs.CaseRun.{run_of, case_with}
 use Rattle.flow_case.specs.CasePolicy.{CaseSaid, IsCasePolicyOf}
-use Rattle.flow_case_book.specs.declared.fresh.TheConstants.{MOST_STEPS}
-use Rattle.flow_case_book.specs.Begun.{IsBegunRun, IsBegun}
-use Rattle.flow_case_book.specs.declared.stop.CaseStop.{CaseStop}
-use Rattle.flow_case_book.specs.Stops.{IsUngoverned, IsUnbegunBy}
+use Rattle.flow_case_begin.specs.declared.texts.TheConstants.{MOST_STEPS}
+use Rattle.flow_ask.specs.declared.ask.Ask.{Ask}
+use Rattle.flow_core.specs.Ask.{GrowsAtMost}
+use Rattle.flow_text.specs.Saying.{Says}
+use Rattle.flow_text.proofs.SaidLaws.{texts_say_one_thing}
+use Rattle.flow_case_begin.specs.Begun.{IsBegunRun, IsBegun, IsCaseOf, IsRunOf}
+use Rattle.flow_case_begin.specs.declared.stop.CaseStop.{CaseStop}
+use Rattle.flow_case_begin.specs.Stops.{IsUngoverned, IsUnbegunBy}
 
 -- a run that is started
 pub begun_run : (s : Said) (w : Definition) (r : Run) → IsExpanded s w → r ≡ record { definition = w; limit = MOST_STEPS; history = [] } → IsBegunRun s r
@@ -70,3 +74,43 @@ follows begun c entries empty is = is ∙ ap (case_with begun) (sym (followed be
 pub if_ok : {A E : Type 0} (r : Result A E) (P Q : A → Type 0) → ((x : A) → P x → Q x) → IfOk r P → IfOk r Q
 if_ok (Ok x) P Q f h = f x h
 if_ok (Err e) P Q f h = h
+
+-- Runs of a text
+
+with_entries : (c : CaseRun) (entries : List Entry) → run_of (case_with c entries) ≡ record (run_of c) { history = (run_of c).history ++ entries }
+with_entries (Free r) entries = refl
+with_entries (UnderPolicy u) entries = refl
+
+-- the run of a case of the text with some entries
+pub run_of_text : (workflow : List ℕ) (policy : Option (List ℕ)) (begun c : CaseRun) (entries : List Entry) → IsCaseOf workflow policy begun → c ≡ case_with begun entries → IsRunOf workflow (run_of c)
+run_of_text workflow policy begun c entries (s, says, b) is =
+    let first = run_begun s policy begun b in
+    let whole = ap run_of is ∙ with_entries begun entries in
+    record {
+      said = s;
+      says = says;
+      expanded = subst (IsExpanded s) (sym (ap (λ (x : Run). x.definition) whole)) first.workflow;
+      limit = ap (λ (x : Run). x.limit) whole ∙ first.limit;
+    }
+
+-- a run of the text stays one, whatever it is asked
+pub text_stays : (workflow : List ℕ) (r after : Run) (what : Ask) (by : ℕ) → GrowsAtMost r what by after → IsRunOf workflow r → IsRunOf workflow after
+text_stays workflow r after what by (inl same) h = subst (IsRunOf workflow) (sym same) h
+text_stays workflow r after what by (inr (step, comes, is)) h = record {
+  said = h.said;
+  says = h.says;
+  expanded = subst (IsExpanded h.said) (sym (ap (λ (x : Run). x.definition) is)) h.expanded;
+  limit = ap (λ (x : Run). x.limit) is ∙ h.limit;
+}
+
+-- the case of the text with the entries of a run of it has that run
+pub same_run : (workflow : List ℕ) (policy : Option (List ℕ)) (r : Run) (begun c : CaseRun) (entries : List Entry) → IsRunOf workflow r → IsCaseOf workflow policy begun → c ≡ case_with begun entries →
+    entries ≡ r.history → run_of c ≡ r
+same_run workflow policy r begun c entries h (s, says, b) is same =
+    let first = run_begun s policy begun b in
+    let expanded : IsExpanded s r.definition = subst (λ (x : Said). IsExpanded x r.definition) (texts_say_one_thing workflow h.said s h.says says) h.expanded in
+    let definition = expanded_once s says.named.once (run_of begun).definition r.definition first.workflow expanded in
+    let limit = first.limit ∙ sym h.limit in
+    let history : (run_of begun).history ++ entries ≡ r.history = ap (λ (l : List Entry). l ++ entries) first.empty ∙ same in
+    let whole : record (run_of begun) { history = (run_of begun).history ++ entries } ≡ r = λ i. record { definition = definition i; limit = limit i; history = history i } in
+    ap run_of is ∙ with_entries begun entries ∙ whole

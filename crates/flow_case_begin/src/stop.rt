@@ -1,5 +1,5 @@
 ghost use Rattle.std.specs.Prelude.{◌≡◌};
-ghost use Rattle.flow_case_book.specs.declared.stop.CaseStop.TheVariants.{Workflow, Policy, NoMemory};
+ghost use Rattle.flow_case_begin.specs.declared.stop.CaseStop.TheVariants.{Workflow, Policy, NoMemory};
 
 use flow_case::CasePolicyRefusal;
 use flow_front::Stop;
@@ -50,6 +50,10 @@ impl From<CasePolicyRefusal> for CaseStop {
 }
 
 impl From<KeepRefusal> for CaseStop {
+    ghost use Rattle.flow_case_begin.specs.Stops.{of_keep};
+
+    ghost from_gives = { λ why stop. stop ≡ of_keep why };
+
     fn from(refusal: KeepRefusal) -> CaseStop {
         match refusal {
             KeepRefusal::DiskFault => CaseStop::Disk,
@@ -60,6 +64,10 @@ impl From<KeepRefusal> for CaseStop {
 }
 
 impl From<OpenRefusal> for CaseStop {
+    ghost use Rattle.flow_case_begin.specs.Stops.{of_trail};
+
+    ghost from_gives = { λ why stop. stop ≡ of_trail why };
+
     fn from(refusal: OpenRefusal) -> CaseStop {
         match refusal {
             OpenRefusal::DiskFault => CaseStop::Disk,
