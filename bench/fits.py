@@ -19,7 +19,7 @@ import sys
 import tempfile
 
 from desk import lists
-from measuring import TOP
+from measuring import TOP, keep_results
 from model import Drawn, Model
 
 MOST_EXECUTIONS = 500
@@ -142,6 +142,8 @@ def main():
         if model.good:
             try_workflow(program, draw, drawn, model, tried)
             count += 1
+    keep_results("fits", ["seed", "workflows", "logs", "wrong", *sorted(tried)],
+                 [[options.seed, count, sum(tried.values()), len(WRONG), *(tried[kind] for kind in sorted(tried))]])
     told = ", ".join(f"{kind} {number}" for kind, number in sorted(tried.items()))
     print(f"fits, seed {options.seed}: {count} workflows, {told}, {len(WRONG)} wrong")
     sys.exit(1 if WRONG else 0)

@@ -7,6 +7,7 @@ Usage: bench/logs.py [PROGRAM] [--large [--plain PROGRAM]]     crates/flowdesk/o
 - 2,000 cases of the laboratory, of which 5 % are spoilt in eight ways: each is found with its reason, and no other.
 - One thread beside four: the same bytes.
 - Journals of 2,000 cases: `flow trace` gives each the verdict that was told (crates/flow/out/flow must be there).
+- 720 sequences of a workflow with many silent leaves, where judging is the work: one thread beside four, by the clock.
 - With --large: a log of 1 GB (10 million events, a million cases, 5,000 sequences), time and memory. PROGRAM behind --plain
   reads the same file by a plain loop of the kit's csv (bench/plain/count_rows.txt): `PROGRAM FILE`. In turns with it, the log is
   to take at most 1.5 times as long, and 300 MB.
@@ -27,6 +28,8 @@ import tempfile
 import time
 
 from measuring import keep_results
+
+FOUND = []
 
 ROOT = pathlib.Path(__file__).resolve().parent.parent
 LABORATORY = ROOT / "examples/laboratory.flow"
@@ -179,6 +182,7 @@ def check_random(program, folder, rounds):
         if fault:
             (folder / "failed.csv").write_bytes(data)
             return f"random log {number}: {fault}"
+    FOUND.append(("random logs as they should be", rounds, rounds, ""))
     print(f"random logs          {rounds} as they should be")
     return None
 
@@ -231,6 +235,8 @@ def check_spoilt(program, folder):
     fault = check_answer(program, path, seen, lines, 0)
     if fault:
         return f"spoilt cases: {fault}"
+    FOUND.append(("spoilt cases found with their reason", spoilt, spoilt, ""))
+    FOUND.append(("other cases found to fit", 2000 - spoilt, 2000 - spoilt, ""))
     print(f"laboratory           2000 cases, {spoilt} spoilt in eight ways: each found with its reason, and no other")
     return None
 
@@ -307,7 +313,38 @@ def check_journals(program, folder):
             tried[verdict] += 1
     if not tried:
         return "no journal"
+    FOUND.append(("journals that flow trace accepts", sum(tried.values()), sum(tried.values()), ""))
     print(f"journals             {dict(tried)}: flow trace gives each its verdict")
+    return None
+
+
+def write_silent(folder):
+    """A workflow of six events and seven updates beside one another, and a log of all orders of the events."""
+    names = [f"e{number}" for number in range(6)]
+    updates = [f"ins f{number}" for number in range(7)]
+    (folder / "silent.flow").write_text(f"event {', '.join(names)}; goal {' | '.join(names + updates)};\n")
+    orders = list(itertools.permutations(names))
+    random.Random(5).shuffle(orders)
+    rows = [f"{case},{event}\n" for case, order in enumerate(orders) for event in order]
+    (folder / "silent.csv").write_text("case,activity\n" + "".join(rows))
+    return len(orders)
+
+
+def check_workers(program, folder):
+    """One thread beside four where judging is the work."""
+    count, seconds, answers = write_silent(folder), {}, set()
+    for _ in range(3):
+        for jobs in "1", "4":
+            start = time.monotonic()
+            done = subprocess.run([program, "log", "silent.csv", "--workflow", "silent.flow", "--form", "json", "--jobs", jobs], cwd=folder, capture_output=True)
+            seconds[jobs] = min(seconds.get(jobs, 1e9), time.monotonic() - start)
+            answers.add(done.stdout)
+    if len(answers) != 1 or json.loads(done.stdout.splitlines()[-1])["execution"] != count:
+        return f"silent leaves: {len(answers)} answers, the last is {done.stdout[-300:]}"
+    ratio = seconds["1"] / seconds["4"]
+    FOUND.append((f"{count} sequences with silent leaves, 1 thread", seconds["1"], "", ""))
+    FOUND.append((f"{count} sequences with silent leaves, 4 threads", seconds["4"], "", ""))
+    print(f"workers              {count} sequences: 1 thread {seconds['1']:.2f} s, 4 threads {seconds['4']:.2f} s, {ratio:.2f} times")
     return None
 
 
@@ -355,15 +392,14 @@ def large(program, plain, path):
     calls = {f"log, {jobs} threads": [program, "log", str(path), "--workflow", str(LABORATORY), "--jobs", jobs] for jobs in ("1", "4")}
     if plain:
         calls["plain loop"] = [plain, str(path)]
-    rows, walls, memories = [], collections.defaultdict(list), collections.defaultdict(list)
+    walls, memories = collections.defaultdict(list), collections.defaultdict(list)
     for _ in range(3):
         for name, words in calls.items():
             out, status, wall, processor, memory = timed(words)
             walls[name].append(processor if name != "log, 4 threads" else wall)
             memories[name].append(memory)
-            rows.append((name, wall, processor, memory))
+            FOUND.append((f"1 GB: {name}", wall, processor, memory))
             print(f"{name:16} status {status}  {wall:6.2f} s  {processor:6.2f} CPU s  {memory:6.0f} MB  load {os.getloadavg()[0]:.1f}")
-    keep_results("logs", ["call", "s", "processor s", "MB"], rows)
     if max(memories["log, 1 threads"]) > 300:
         return f"large: {max(memories['log, 1 threads']):.0f} MB"
     if plain:
@@ -386,15 +422,15 @@ def main():
     with tempfile.TemporaryDirectory() as name:
         folder = pathlib.Path(name)
         for fault in (check_random(program, folder, given.rounds), check_spoilt(program, folder), check_times(program, folder),
-                      check_threads(program, folder), check_journals(program, folder)):
+                      check_threads(program, folder), check_journals(program, folder), check_workers(program, folder)):
             if fault:
                 print(fault)
                 return 1
-    if given.large:
-        fault = large(program, given.plain, pathlib.Path(given.file))
-        if fault:
-            print(fault)
-            return 1
+    fault = large(program, given.plain, pathlib.Path(given.file)) if given.large else None
+    keep_results("logs", ["what", "s, or how many", "processor s, or of how many", "MB"], FOUND)
+    if fault:
+        print(fault)
+        return 1
     return 0
 
 

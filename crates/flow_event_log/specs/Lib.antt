@@ -6,3 +6,4 @@ pub mod Numbers
 pub mod Reached
 pub mod Rows
 pub mod Spelling
+pub mod Taken

@@ -45,8 +45,9 @@ fn case_number(names: &mut Names, last: Option<&Event>, name: &[u8]) -> Result<u
 }
 
 impl EventLog {
-    ghost use Rattle.std.specs.Prelude.{◌≡◌, ◌∷◌, ◌++◌, [], OnOk, IfOk, IfSome, IfNone, Some, slice_get};
+    ghost use Rattle.std.specs.Prelude.{◌≡◌, ◌∷◌, ◌++◌, [], ℕ, OnOk, IfOk, IfSome, IfNone, Some, slice_get};
     ghost use Rattle.flow_event_log.specs.Logs.{cases_in, activities_in, events_in, rows_in};
+    ghost use Rattle.flow_event_log.specs.Numbers.{IsNumberedIn};
 
     /// A log of no event.
     pub fn new(alloc: Global) -> Result<EventLog, AllocError>
@@ -57,7 +58,9 @@ impl EventLog {
 
     /// A log of no event. Its names are hashed by that key.
     pub fn with_key(alloc: Global, key: NamesKey) -> Result<EventLog, AllocError>
-        ensures { IfOk result (λ log. rows_in log ≡ []) }
+        ensures rows { IfOk result (λ log. rows_in log ≡ []) }
+        ensures cases { IfOk result (λ log. cases_in log ≡ []) }
+        ensures activities { IfOk result (λ log. activities_in log ≡ []) }
     {
         Ok(EventLog {
             cases: Names::with_key(alloc, key, CASE_BUCKETS)?,
@@ -99,6 +102,8 @@ impl EventLog {
     pub fn note(&mut self, case: &[u8], activity: &[u8], line: u32) -> Result<u32, AllocError>
         ensures rows { OnOk result (rows_in self.new ≡ rows_in self.old ++ (case.now, activity.now) ∷ []) }
         ensures case { IfOk result (λ number. slice_get (cases_in self.new) number ≡ Some case.now) }
+        ensures cases { OnOk result (IsNumberedIn (cases_in self.old) case.now (cases_in self.new)) }
+        ensures activities { OnOk result (IsNumberedIn (activities_in self.old) activity.now (activities_in self.new)) }
     {
         let case = case_number(&mut self.cases, self.events.last(), case)?;
         let activity = self.activities.number_of(activity)?;
@@ -120,6 +125,8 @@ impl EventLog {
     ) -> Result<Option<u32>, AllocError>
         ensures rows { IfOk result (λ known. IfSome known (λ number. rows_in self.new ≡ rows_in self.old ++ (case.now, activity.now) ∷ [])) }
         ensures case { IfOk result (λ known. IfSome known (λ number. slice_get (cases_in self.new) number ≡ Some case.now)) }
+        ensures known { IfOk result (λ known. IfSome known (λ number. (activity_number : ℕ) × (slice_get (activities_in self.new) activity_number ≡ Some activity.now))) }
+        ensures names { IfOk result (λ known. (cases_in self.new ≡ cases_in self.old) × (activities_in self.new ≡ activities_in self.old)) }
         ensures unknown { IfOk result (λ known. IfNone known (self.new ≡ self.old)) }
     {
         let Some(number) = self.cases.recall(case) else {

@@ -182,12 +182,18 @@ fn moment_on(days: u64, behind: &[u8]) -> Option<Moment> {
     })
 }
 
-/// Reads times. Mostly one has the date of the one before it, which is not read again.
+/// How long a text is at most that is kept.
+const LONGEST: usize = 32;
+
+/// Reads times. Mostly a text is the one before it, or has the date of that: what was read of it is not read again.
 #[derive(Clone, Copy)]
 pub(crate) struct Dates {
-    /// The date that came last.
-    last: [u8; DATE],
-    /// The days to it.
+    /// The text that came last, and what it says.
+    text: [u8; LONGEST],
+    size: usize,
+    moment: Moment,
+    /// The date that came last, and the days to it.
+    date: [u8; DATE],
     days: u64,
 }
 
@@ -195,21 +201,53 @@ impl Dates {
     /// No date came.
     pub(crate) fn new() -> Dates {
         Dates {
-            last: [0; DATE],
+            text: [0; LONGEST],
+            size: 0,
+            moment: Moment {
+                microseconds: 0,
+                zoned: false,
+            },
+            date: [0; DATE],
             days: 0,
         }
     }
 
-    /// The time that a text says: a date, and mostly a time of the day and a zone, as ISO 8601 writes them.
-    pub(crate) fn moment_in(&mut self, text: &[u8]) -> Option<Moment> {
+    /// Whether the text is the one that came last.
+    fn is_last(&self, text: &[u8]) -> bool {
+        text.len() >= DATE
+            && text.len() == self.size
+            && text == &self.text[..self.size.min(LONGEST)]
+    }
+
+    /// Keeps what a text says, if the text is short.
+    fn keep(&mut self, text: &[u8], moment: Moment) {
+        if text.len() <= LONGEST {
+            self.text[..text.len()].copy_from_slice(text);
+            self.size = text.len();
+            self.moment = moment;
+        }
+    }
+
+    /// The time that a text says that is not the one before it.
+    fn read(&mut self, text: &[u8]) -> Option<Moment> {
         if text.len() < DATE {
             return None;
         }
         let (date, behind) = text.split_at(DATE);
-        if date != &self.last[..] {
+        if date != &self.date[..] {
             self.days = days_in(date)?;
-            self.last.copy_from_slice(date);
+            self.date.copy_from_slice(date);
         }
         moment_on(self.days, behind)
+    }
+
+    /// The time that a text says: a date, and mostly a time of the day and a zone, as ISO 8601 writes them.
+    pub(crate) fn moment_in(&mut self, text: &[u8]) -> Option<Moment> {
+        if self.is_last(text) {
+            return Some(self.moment);
+        }
+        let moment = self.read(text)?;
+        self.keep(text, moment);
+        Some(moment)
     }
 }

@@ -51,11 +51,11 @@ fn bucket(key: NamesKey, text: &[u8], buckets: usize) -> usize
 /// How many slots there are for texts that were asked for of late.
 const SLOTS: usize = 65_536;
 
-/// The slot of a text: the low halves of its last four bytes.
+/// The slot of a text: the low halves of its last four bytes, mixed with that of its length.
 fn slot(text: &[u8]) -> usize {
     match text {
         [.., a, b, c, d] => {
-            let high = (*a as usize & 15) * 16 + (*b as usize & 15);
+            let high = (((*a as usize) ^ text.len()) & 15) * 16 + (*b as usize & 15);
             let low = (*c as usize & 15) * 16 + (*d as usize & 15);
             high * 256 + low
         }

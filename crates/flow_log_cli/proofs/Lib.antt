@@ -1,3 +1,5 @@
 pub mod JudgingLemmas
+pub mod NotedLemmas
 pub mod PassingLemmas
 pub mod Places
+pub mod StandLemmas

@@ -1,6 +1,7 @@
 //! `flowdesk log`, as a call over values: which cases of an event log keep to a workflow, and where each other one leaves it.
 #![tactic(auto)]
 
+mod first_numbers;
 mod journals;
 mod judge;
 mod passing;
@@ -13,8 +14,7 @@ mod vocabulary;
 pub use journals::journal_of;
 pub use judge::WorkflowJudge;
 pub use passing::passing_cases;
-pub use renaming::{MapRefusal, Renaming, read_map};
+pub use renaming::MapRefusal;
 pub use source::workflow_of;
 pub use stop::LogStop;
 pub use telling::{Form, LogCall, Told, tell_log, tell_log_with_key, write_answer};
-pub use vocabulary::{Vocabulary, events_of_activities, labels_of};

@@ -1,9 +1,12 @@
-ghost use Rattle.std.specs.Prelude.{◌≤◌, length, IfOk};
+ghost use Rattle.std.specs.Prelude.{◌≤◌, ℕ, List, Option, option_map, length, IfOk};
 ghost use Rattle.flow_workflow.specs.Definition.{schema_of};
 ghost use Rattle.flow_plan.specs.Compilation.{IsCompiled};
 ghost use Rattle.flow_event_log.specs.Logs.{activities_in};
 ghost use Rattle.flow_conformance.specs.Judged.{AreFindings};
 ghost use Rattle.flow_log_cli.specs.Judging.{IsVerdict};
+ghost use Rattle.flow_log_cli.specs.Activities.{StandFor};
+ghost use Rattle.flow_log_cli.specs.Maps.{AreMapRows, AreGoodRows};
+ghost use Rattle.flow_log_cli.specs.Noted.{IsRenaming, IsVocabulary};
 ghost use Rattle.flow_log_cli.specs.Told.{IsTold};
 
 use crate::judge::WorkflowJudge;
@@ -63,10 +66,16 @@ impl Told {
 fn renaming_of(
     alloc: Global,
     map: Option<&[u8]>,
-    vocabulary: &Vocabulary,
-) -> Result<Renaming, LogStop> {
+    vocabulary: &Vocabulary<'_>,
+) -> Result<Renaming, LogStop>
+    requires { IsVocabulary vocabulary.now }
+    ensures { IfOk result (λ renaming. IsRenaming vocabulary.now.events.now (option_map (λ text. text.now) map.entry) renaming.table.names renaming.table.numbers.items) }
+{
     match map {
-        Some(text) => Ok(read_map(alloc, text, vocabulary)?),
+        Some(text) => match read_map(alloc, text, vocabulary) {
+            Ok(renaming) => Ok(renaming),
+            Err(refusal) => Err(LogStop::Map(refusal)),
+        },
         None => Ok(Renaming::new(alloc)?),
     }
 }
@@ -98,7 +107,8 @@ fn judge_reading<R: Threads + Sync>(
 ) -> Result<Told, LogStop>
     requires compiled { IsCompiled (schema_of prepared.now.workflow) prepared.now.compiled }
     requires events { length (activities_in reading.log) ≤ length events.now }
-    ensures { IfOk result (IsTold prepared.now.workflow) }
+    ensures { (map : Option (List ℕ)) (rows : List (List (List ℕ))) → AreMapRows map rows → AreGoodRows prepared.now.workflow.events rows →
+        StandFor prepared.now.workflow.events rows (activities_in reading.log) events.now → IfOk result (IsTold prepared.now.workflow map) }
 {
     let labels = labels_of(alloc, &prepared.workflow, reading.log.activities())?;
     let cases = group(alloc, &reading.log, events)?;
@@ -121,7 +131,7 @@ pub fn tell_log<R: Threads + Sync, S: Read + Drop>(
     call: &LogCall<'_>,
 ) -> Result<Told, LogStop>
     requires { IsCompiled (schema_of prepared.now.workflow) prepared.now.compiled }
-    ensures { IfOk result (IsTold prepared.now.workflow) }
+    ensures { IfOk result (IsTold prepared.now.workflow (option_map (λ text. text.now) map.entry)) }
 {
     let key = NamesKey::new(0, 0);
     tell_log_with_key(rt, alloc, prepared, map, source, call, key)
@@ -138,7 +148,7 @@ pub fn tell_log_with_key<R: Threads + Sync, S: Read + Drop>(
     key: NamesKey,
 ) -> Result<Told, LogStop>
     requires { IsCompiled (schema_of prepared.now.workflow) prepared.now.compiled }
-    ensures { IfOk result (IsTold prepared.now.workflow) }
+    ensures { IfOk result (IsTold prepared.now.workflow (option_map (λ text. text.now) map.entry)) }
 {
     let vocabulary = Vocabulary::new(alloc, &prepared.workflow)?;
     let renaming = renaming_of(alloc, map, &vocabulary)?;
