@@ -1,0 +1,7 @@
+mod HeadSteps
+mod HeadLemmas
+mod PairLemmas
+mod TieLemmas
+mod RoleLemmas
+mod BoolLemmas
+mod ToldLemmas

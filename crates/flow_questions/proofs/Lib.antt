@@ -1,0 +1,2 @@
+pub mod NeverLemmas
+pub mod StaffLemmas

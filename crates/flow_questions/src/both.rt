@@ -1,0 +1,81 @@
+ghost use Rattle.std.specs.Prelude.{IsTrue, IfOk, IfSome};
+ghost use Rattle.flow_roles.specs.Having.{HasEvent};
+ghost use Rattle.flow_core.specs.Run.{schema};
+ghost use Rattle.flow_plan.specs.Compilation.{IsCompiled};
+ghost use Rattle.flow_questions.specs.Questions.{HoldsRoles, HasBoth, IsRunOfSame, TellsOfBoth};
+
+use crate::never::look_for;
+use crate::run::do_all;
+use flow_case::RuledRun;
+use flow_plan::Compiled;
+use flow_stages::{Question, Searched};
+use std::alloc::{AllocError, Global};
+
+/// Whether one user can have two events in one run.
+#[derive(Clone, Copy)]
+pub enum Shared {
+    /// This user can. The run shows it.
+    By(u32),
+    /// No user can, in any run.
+    Never,
+    /// No such run was found among so many states. There may be one.
+    Undecided(u64),
+}
+
+/// Whether the user has the event in the run.
+#[tactic(auto, using(crate::proofs::StaffLemmas::taker_has))]
+fn has(run: &RuledRun, event: u32, user: u32) -> bool
+    ensures { IsTrue result → HasEvent run.now.desk event user }
+{
+    match run.core().taker_of_event(event) {
+        Some(taker) => taker == user,
+        None => false,
+    }
+}
+
+/// The first user below that number who has both events in the run.
+fn who_has_both(run: &RuledRun, one: u32, two: u32, users: u32) -> Option<u32>
+    ensures { IfSome result (HasBoth run.now.desk one two) }
+{
+    for user in 0..users {
+        if has(run, one, user) && has(run, two, user) {
+            return Some(user);
+        }
+    }
+    None
+}
+
+/// Looks for a run of the case, which has no entry yet, in which one user has both events. Where one is found, the run is made. Not more than so
+/// many states are looked at.
+pub fn alone(
+    alloc: Global,
+    run: &mut RuledRun,
+    compiled: &Compiled,
+    users: u32,
+    one: u32,
+    two: u32,
+    states: u64,
+) -> Result<Shared, AllocError>
+    requires roles { HoldsRoles run.old.desk.assigned.duties users }
+    requires compiled { IsCompiled (schema run.old.desk.run) compiled.now }
+    ensures same { IsRunOfSame run.old run.new }
+    ensures told { IfOk result (TellsOfBoth run.new one two states) }
+{
+    let question = Question::Both(one, two);
+    let mut left = states;
+    match look_for(alloc, run, compiled, users, question, &mut left)? {
+        Searched::Nothing => Ok(Shared::Never),
+        Searched::Spent => Ok(Shared::Undecided(states.saturating_sub(left))),
+        Searched::Shown {
+            leaves,
+            takers,
+            event: _,
+        } => {
+            do_all(run, &leaves, &takers);
+            Ok(match who_has_both(run, one, two, users) {
+                Some(user) => Shared::By(user),
+                None => Shared::Undecided(states.saturating_sub(left)),
+            })
+        }
+    }
+}

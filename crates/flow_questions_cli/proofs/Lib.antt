@@ -1,0 +1,2 @@
+pub mod SubjectLemmas
+pub mod AskedLemmas

@@ -1,0 +1,3 @@
+pub mod Subject
+pub mod Stops
+pub mod Told

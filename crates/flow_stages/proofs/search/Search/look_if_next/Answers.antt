@@ -1,0 +1,4 @@
+use Rattle.flow_stages.proofs.search.Search.look_if_next.Goals as goal
+
+pub returns-then-has-clause-manned : goal.returns-then-has-clause-manned
+returns-then-has-clause-manned c = λ to e fits there of. c.look_at_leaf.ensures.manned to e fits of

@@ -1,0 +1,12 @@
+use Rattle.std.proofs.Common.{◌⊎◌, ℕ}
+use Rattle.flow_model.specs.Lists.{◌∈◌}
+use Rattle.flow_stages.specs.Fitting.{Fits, Misses}
+use Rattle.flow_stages.specs.Trying.{IsToCome, AreOfFirst}
+use Rattle.flow_stages.proofs.staffing.Staff.fill.Given as goal
+
+abbrev pub invariant-loop : goal.invariant-loop
+invariant-loop l = record {
+  first : AreOfFirst l.events l.taken.items;
+  remains : (to : ℕ → ℕ) → Fits l.self.policy.now.duties l.wanted (λ e. e ∈ l.events) to →
+      Misses l.self.policy.now.duties l.wanted (λ e. e ∈ l.events) to ⊎ IsToCome l.events l.taken.items l.from to;
+}

@@ -1,0 +1,5 @@
+use Rattle.flow_stages.proofs.TieLemmas.{tied}
+use Rattle.flow_stages.proofs.staffing.Staff.is_bound.Goals as goal
+
+pub returns : goal.returns
+returns c = tied c.args.self.now.policy.now.duties.bound c.args.event c.args.other _ _ c.bindings.ensures c.is_tied.ensures

@@ -1,0 +1,318 @@
+//! The stages of an option, looked at in turn.
+ghost use Rattle.std.specs.Prelude.{◌≡◌, ◌<◌, ◌++◌, ◌∷◌, [], ℕ, List, Some, IsTrue, IfOk, IfNone, IfSome, slice_get};
+ghost use Rattle.leaf_rows.specs.Leaves.{has_leaf};
+ghost use Rattle.flow_model.specs.declared.limits.TheConstants.{MOST_LEAVES};
+ghost use Rattle.flow_model.specs.Facts.{HoldsAt, replay};
+ghost use Rattle.flow_model.specs.Lists.{◌∈◌, Begins};
+ghost use Rattle.flow_model.specs.Process;
+ghost use Rattle.flow_model.specs.Schema.{start_of};
+ghost use Rattle.flow_workflow.specs.Definition.{schema_of};
+ghost use Rattle.flow_plan.specs.FoldRows.{AreFoldRows};
+ghost use Rattle.flow_stages.specs.declared.nodes.Node.{Node};
+ghost use Rattle.flow_stages.specs.declared.search.Searched.TheVariants.{Nothing};
+ghost use Rattle.flow_stages.specs.Asked.{IsNeverSo};
+ghost use Rattle.flow_stages.specs.Fitting.{HoldsRoles};
+ghost use Rattle.flow_stages.specs.Listed.{IsCovered, IsQuiet, AreQuiet, IsFollowed, IsOpen};
+ghost use Rattle.flow_stages.specs.Stages.{IsAfter};
+
+use crate::nodes::{Node, depth_at, is_known, path_to};
+use crate::question::Question;
+use crate::staffing::Staff;
+use crate::stage::Stage;
+use flow_model::MOST_LEAVES;
+use flow_plan::{FoldRow, Plan};
+use flow_workflow::Workflow;
+use leaf_rows::{LEAF_WORDS, LeafSet};
+use std::alloc::{AllocError, Global};
+
+/// Events with the users who take them.
+pub type Takers = Vec<(u32, u32)>;
+
+/// What a stage comes to.
+#[derive(Drop)]
+pub enum Look {
+    /// What is asked is not so here.
+    Open,
+    /// No users can take the events up to here so that what is asked could be so here or later.
+    Hopeless,
+    /// It is so here, with these takers, of this event.
+    Shown(Takers, u32),
+    /// The states are spent.
+    Spent,
+}
+
+/// What was found.
+#[derive(Drop)]
+pub enum Searched {
+    Nothing,
+    /// Leaves done in turn, who takes their events, and the event that is asked about.
+    Shown {
+        leaves: Vec<u32>,
+        takers: Takers,
+        event: u32,
+    },
+    Spent,
+}
+
+/// An option that is searched for what is asked.
+#[derive(Clone, Copy)]
+pub struct Search<'a> {
+    pub(crate) workflow: &'a Workflow,
+    pub(crate) staff: Staff<'a>,
+    pub(crate) folds: &'a [FoldRow],
+    pub(crate) plan: &'a Plan,
+    pub(crate) question: Question,
+}
+
+impl Search<'_> {
+    /// The stage once the leaf is done, where its label holds.
+    fn stage_after(
+        &self,
+        alloc: Global,
+        stage: &Stage,
+        leaf: u32,
+    ) -> Result<Option<Stage>, AllocError>
+        requires { leaf < MOST_LEAVES }
+        ensures none { (list : List ℕ) → IsAfter (schema_of self.now.workflow.now) list stage.now →
+            IfOk result (λ next. IfNone next (¬ (HoldsAt (schema_of self.now.workflow.now).labels (replay (schema_of self.now.workflow.now).labels (start_of (schema_of self.now.workflow.now)) list) leaf))) }
+        ensures after { (list : List ℕ) → IsAfter (schema_of self.now.workflow.now) list stage.now →
+            IfOk result (λ next. IfSome next (IsAfter (schema_of self.now.workflow.now) (list ++ leaf ∷ []))) }
+    {
+        let label = self.workflow.tree().label(leaf);
+        if stage.lets(label) {
+            Ok(Some(stage.with(alloc, leaf, label)?))
+        } else {
+            Ok(None)
+        }
+    }
+
+    /// Looks at a stage that is reached from the one at the place. It is kept where it is new and the search goes on from it.
+    fn reach(
+        &self,
+        alloc: Global,
+        nodes: &mut Vec<Node>,
+        stage: Stage,
+        place: usize,
+        leaf: u32,
+        states: &mut u64,
+    ) -> Result<Look, AllocError>
+        requires folds { AreFoldRows self.now.plan.now.process self.now.folds.now }
+        requires roles { HoldsRoles self.now.staff.policy.now.duties self.now.staff.users }
+        ensures grows { Begins nodes.new.items nodes.old.items }
+        ensures quiet { IfOk result (λ look. IsOpen look → AreQuiet (schema_of self.now.workflow.now) self.now.staff.policy.now.duties self.now.plan.now self.now.question nodes.old.items →
+            AreQuiet (schema_of self.now.workflow.now) self.now.staff.policy.now.duties self.now.plan.now self.now.question nodes.new.items) }
+        ensures covered { IfOk result (λ look. IsOpen look → (list : List ℕ) → IsAfter (schema_of self.now.workflow.now) list stage →
+            IsCovered (schema_of self.now.workflow.now) self.now.staff.policy.now.duties self.now.question nodes.new.items list) }
+    {
+        let depth = depth_at(nodes, place).saturating_add(1);
+        if is_known(nodes, &stage, depth) {
+            return Ok(Look::Open);
+        }
+        match self.look(alloc, &stage, states)? {
+            Look::Hopeless => Ok(Look::Open),
+            look => {
+                nodes.push(Node {
+                    stage,
+                    from: place,
+                    leaf,
+                    depth,
+                })?;
+                Ok(look)
+            }
+        }
+    }
+
+    /// Looks at the stage once the leaf is done after the one at the place.
+    fn follow(
+        &self,
+        alloc: Global,
+        nodes: &mut Vec<Node>,
+        place: usize,
+        leaf: u32,
+        states: &mut u64,
+    ) -> Result<Look, AllocError>
+        requires folds { AreFoldRows self.now.plan.now.process self.now.folds.now }
+        requires roles { HoldsRoles self.now.staff.policy.now.duties self.now.staff.users }
+        requires small { leaf < MOST_LEAVES }
+        ensures grows { Begins nodes.new.items nodes.old.items }
+        ensures quiet { IfOk result (λ look. IsOpen look → AreQuiet (schema_of self.now.workflow.now) self.now.staff.policy.now.duties self.now.plan.now self.now.question nodes.old.items →
+            AreQuiet (schema_of self.now.workflow.now) self.now.staff.policy.now.duties self.now.plan.now self.now.question nodes.new.items) }
+        ensures covered { IfOk result (λ look. IsOpen look → (node : Node) (list : List ℕ) → slice_get nodes.old.items place ≡ Some node →
+            IsAfter (schema_of self.now.workflow.now) list node.stage →
+            HoldsAt (schema_of self.now.workflow.now).labels (replay (schema_of self.now.workflow.now).labels (start_of (schema_of self.now.workflow.now)) list) leaf →
+            IsCovered (schema_of self.now.workflow.now) self.now.staff.policy.now.duties self.now.question nodes.new.items (list ++ leaf ∷ [])) }
+    {
+        let Some(node) = nodes.get(place) else {
+            return Ok(Look::Open);
+        };
+        match self.stage_after(alloc, &node.stage, leaf)? {
+            Some(stage) => self.reach(alloc, nodes, stage, place, leaf, states),
+            None => Ok(Look::Open),
+        }
+    }
+
+    /// The same, where the leaf is one of the row.
+    fn follow_if_next(
+        &self,
+        alloc: Global,
+        nodes: &mut Vec<Node>,
+        place: usize,
+        leaf: u32,
+        row: &LeafSet<LEAF_WORDS>,
+        states: &mut u64,
+    ) -> Result<Look, AllocError>
+        requires folds { AreFoldRows self.now.plan.now.process self.now.folds.now }
+        requires roles { HoldsRoles self.now.staff.policy.now.duties self.now.staff.users }
+        requires small { leaf < MOST_LEAVES }
+        ensures grows { Begins nodes.new.items nodes.old.items }
+        ensures quiet { IfOk result (λ look. IsOpen look → AreQuiet (schema_of self.now.workflow.now) self.now.staff.policy.now.duties self.now.plan.now self.now.question nodes.old.items →
+            AreQuiet (schema_of self.now.workflow.now) self.now.staff.policy.now.duties self.now.plan.now self.now.question nodes.new.items) }
+        ensures covered { IfOk result (λ look. IsOpen look → (node : Node) (list : List ℕ) → slice_get nodes.old.items place ≡ Some node →
+            IsAfter (schema_of self.now.workflow.now) list node.stage → IsTrue (has_leaf row.now leaf) →
+            HoldsAt (schema_of self.now.workflow.now).labels (replay (schema_of self.now.workflow.now).labels (start_of (schema_of self.now.workflow.now)) list) leaf →
+            IsCovered (schema_of self.now.workflow.now) self.now.staff.policy.now.duties self.now.question nodes.new.items (list ++ leaf ∷ [])) }
+    {
+        if row.has(leaf) {
+            self.follow(alloc, nodes, place, leaf, states)
+        } else {
+            Ok(Look::Open)
+        }
+    }
+
+    /// Looks at the stages once one of the leaves of the row is done after the one at the place, up to the first that shows what is asked.
+    fn follow_all(
+        &self,
+        alloc: Global,
+        nodes: &mut Vec<Node>,
+        place: usize,
+        row: &LeafSet<LEAF_WORDS>,
+        states: &mut u64,
+    ) -> Result<Look, AllocError>
+        requires folds { AreFoldRows self.now.plan.now.process self.now.folds.now }
+        requires roles { HoldsRoles self.now.staff.policy.now.duties self.now.staff.users }
+        ensures grows { Begins nodes.new.items nodes.old.items }
+        ensures quiet { IfOk result (λ look. IsOpen look → AreQuiet (schema_of self.now.workflow.now) self.now.staff.policy.now.duties self.now.plan.now self.now.question nodes.old.items →
+            AreQuiet (schema_of self.now.workflow.now) self.now.staff.policy.now.duties self.now.plan.now self.now.question nodes.new.items) }
+        ensures covered { IfOk result (λ look. IsOpen look → (node : Node) (list : List ℕ) (n : ℕ) → slice_get nodes.old.items place ≡ Some node →
+            IsAfter (schema_of self.now.workflow.now) list node.stage → n ∈ Process.leaves self.now.plan.now.process → IsTrue (has_leaf row.now n) →
+            HoldsAt (schema_of self.now.workflow.now).labels (replay (schema_of self.now.workflow.now).labels (start_of (schema_of self.now.workflow.now)) list) n →
+            IsCovered (schema_of self.now.workflow.now) self.now.staff.policy.now.duties self.now.question nodes.new.items (list ++ n ∷ [])) }
+    {
+        for leaf in self.plan.leaves() {
+            match self.follow_if_next(alloc, nodes, place, *leaf, row, states)? {
+                Look::Open => {}
+                look => return Ok(look),
+            }
+        }
+        Ok(Look::Open)
+    }
+
+    /// Looks at the stages that come next after the one at the place, up to the first that shows what is asked.
+    fn expand(
+        &self,
+        alloc: Global,
+        nodes: &mut Vec<Node>,
+        place: usize,
+        states: &mut u64,
+    ) -> Result<Look, AllocError>
+        requires folds { AreFoldRows self.now.plan.now.process self.now.folds.now }
+        requires roles { HoldsRoles self.now.staff.policy.now.duties self.now.staff.users }
+        ensures grows { Begins nodes.new.items nodes.old.items }
+        ensures quiet { IfOk result (λ look. IsOpen look → AreQuiet (schema_of self.now.workflow.now) self.now.staff.policy.now.duties self.now.plan.now self.now.question nodes.old.items →
+            AreQuiet (schema_of self.now.workflow.now) self.now.staff.policy.now.duties self.now.plan.now self.now.question nodes.new.items) }
+        ensures followed { IfOk result (λ look. IsOpen look → (node : Node) → slice_get nodes.old.items place ≡ Some node →
+            IsFollowed (schema_of self.now.workflow.now) self.now.staff.policy.now.duties self.now.plan.now self.now.question nodes.new.items node.stage) }
+    {
+        let Some(node) = nodes.get(place) else {
+            return Ok(Look::Open);
+        };
+        let row = self.next_row(&node.stage);
+        self.follow_all(alloc, nodes, place, &row, states)
+    }
+
+    /// Goes on from each of the stages in turn, which show nothing, up to the first that shows what is asked.
+    fn explore(
+        &self,
+        alloc: Global,
+        nodes: &mut Vec<Node>,
+        states: &mut u64,
+    ) -> Result<Look, AllocError>
+        requires folds { AreFoldRows self.now.plan.now.process self.now.folds.now }
+        requires roles { HoldsRoles self.now.staff.policy.now.duties self.now.staff.users }
+        ensures grows { Begins nodes.new.items nodes.old.items }
+        ensures quiet { IfOk result (λ look. IsOpen look → AreQuiet (schema_of self.now.workflow.now) self.now.staff.policy.now.duties self.now.plan.now self.now.question nodes.old.items →
+            AreQuiet (schema_of self.now.workflow.now) self.now.staff.policy.now.duties self.now.plan.now self.now.question nodes.new.items) }
+        ensures followed { IfOk result (λ look. IsOpen look → (node : Node) → node ∈ nodes.new.items →
+            IsFollowed (schema_of self.now.workflow.now) self.now.staff.policy.now.duties self.now.plan.now self.now.question nodes.new.items node.stage) }
+    {
+        for place in 0..usize::MAX {
+            if place >= nodes.len() {
+                return Ok(Look::Open);
+            }
+            if *states == 0 {
+                return Ok(Look::Spent);
+            }
+            *states -= 1;
+            match self.expand(alloc, nodes, place, states)? {
+                Look::Open => {}
+                look => return Ok(look),
+            }
+        }
+        Ok(Look::Spent)
+    }
+
+    /// What is found, where the last stage shows it.
+    fn shown(
+        &self,
+        alloc: Global,
+        nodes: &[Node],
+        takers: Takers,
+        event: u32,
+    ) -> Result<Searched, AllocError>
+        ensures { IfOk result (λ found. ¬ (found ≡ Nothing)) }
+    {
+        let leaves = path_to(alloc, nodes, nodes.len().saturating_sub(1))?;
+        Ok(Searched::Shown {
+            leaves,
+            takers,
+            event,
+        })
+    }
+
+    /// Goes on from the first stage, which shows nothing.
+    fn go_on(&self, alloc: Global, stage: Stage, states: &mut u64) -> Result<Searched, AllocError>
+        requires folds { AreFoldRows self.now.plan.now.process self.now.folds.now }
+        requires roles { HoldsRoles self.now.staff.policy.now.duties self.now.staff.users }
+        requires first { IsAfter (schema_of self.now.workflow.now) [] stage }
+        requires quiet { IsQuiet (schema_of self.now.workflow.now) self.now.staff.policy.now.duties self.now.plan.now self.now.question stage }
+        ensures { IfOk result (λ found. found ≡ Nothing → IsNeverSo (schema_of self.now.workflow.now) self.now.staff.policy.now.duties self.now.plan.now self.now.question) }
+    {
+        let mut nodes = Vec::new(alloc);
+        nodes.push(Node {
+            stage,
+            from: 0,
+            leaf: 0,
+            depth: 0,
+        })?;
+        match self.explore(alloc, &mut nodes, states)? {
+            Look::Open => Ok(Searched::Nothing),
+            Look::Shown(takers, event) => self.shown(alloc, &nodes, takers, event),
+            Look::Hopeless | Look::Spent => Ok(Searched::Spent),
+        }
+    }
+
+    /// Looks at the stages of the option, those with fewer leaves first.
+    pub(crate) fn run(&self, alloc: Global, states: &mut u64) -> Result<Searched, AllocError>
+        requires folds { AreFoldRows self.now.plan.now.process self.now.folds.now }
+        requires roles { HoldsRoles self.now.staff.policy.now.duties self.now.staff.users }
+        ensures { IfOk result (λ found. found ≡ Nothing → IsNeverSo (schema_of self.now.workflow.now) self.now.staff.policy.now.duties self.now.plan.now self.now.question) }
+    {
+        let stage = Stage::first(alloc, self.workflow.held())?;
+        match self.look(alloc, &stage, states)? {
+            Look::Hopeless => Ok(Searched::Nothing),
+            Look::Spent => Ok(Searched::Spent),
+            Look::Shown(takers, event) => self.shown(alloc, &[], takers, event),
+            Look::Open => self.go_on(alloc, stage, states),
+        }
+    }
+}
