@@ -83,21 +83,26 @@ _flowdesk() {
             [[ ${COMP_WORDS[1]} == log ]] && forms="text csv json"
             mapfile -t COMPREPLY < <(compgen -W "$forms" -- "$word") && return
             ;;
+        --rows) mapfile -t COMPREPLY < <(compgen -W "all journal tasks" -- "$word") && return ;;
         --journal | --log | --workflow | --policy | --map | --journals | --session | --query) _flow_files "$word" && return ;;
     esac
     if [[ $COMP_CWORD -eq 1 ]]; then
         local cases="new take done fail do rewind commit tidy todo why history undone facts report verify open"
-        mapfile -t COMPREPLY < <(compgen -W "draw explain lint log page $cases --help --version" -- "$word")
+        mapfile -t COMPREPLY < <(compgen -W "draw explain lint alone staffed log page export $cases --help --version" -- "$word")
+    elif [[ $word == -* && ${COMP_WORDS[1]} == export ]]; then
+        mapfile -t COMPREPLY < <(compgen -W "$(_flow_unused --form --rows)" -- "$word")
     elif [[ $word == -* && ${COMP_WORDS[1]} == page ]]; then
         mapfile -t COMPREPLY < <(compgen -W "$(_flow_unused --at --wait)" -- "$word")
     elif [[ $word == -* && ${COMP_WORDS[1]} == new ]]; then
         mapfile -t COMPREPLY < <(compgen -W "$(_flow_unused --workflow --policy --tidy)" -- "$word")
-    elif [[ $word == -* && ${COMP_WORDS[1]} != draw && ${COMP_WORDS[1]} != explain && ${COMP_WORDS[1]} != lint && ${COMP_WORDS[1]} != log ]]; then
+    elif [[ $word == -* && ${COMP_WORDS[1]} != draw && ${COMP_WORDS[1]} != explain && ${COMP_WORDS[1]} != lint && ${COMP_WORDS[1]} != log && ${COMP_WORDS[1]} != alone && ${COMP_WORDS[1]} != staffed ]]; then
         mapfile -t COMPREPLY < <(compgen -W "$(_flow_unused --as --note --at --wait --json --quiet --ok)" -- "$word")
     elif [[ $word == -* && ${COMP_WORDS[1]} == explain ]]; then
         mapfile -t COMPREPLY < <(compgen -W "$(_flow_unused --circles --session --policy --leaf --journal --query --json)" -- "$word")
     elif [[ $word == -* && ${COMP_WORDS[1]} == lint ]]; then
-        mapfile -t COMPREPLY < <(compgen -W "$(_flow_unused --json)" -- "$word")
+        mapfile -t COMPREPLY < <(compgen -W "$(_flow_unused --policy --json)" -- "$word")
+    elif [[ $word == -* && ( ${COMP_WORDS[1]} == alone || ${COMP_WORDS[1]} == staffed ) ]]; then
+        mapfile -t COMPREPLY < <(compgen -W "$(_flow_unused --policy --states --json)" -- "$word")
     elif [[ $word == -* && ${COMP_WORDS[1]} == log ]]; then
         mapfile -t COMPREPLY < <(compgen -W "$(_flow_unused --workflow --case --activity --time --map --form --journals --jobs --budget)" -- "$word")
     elif [[ $word == -* ]]; then

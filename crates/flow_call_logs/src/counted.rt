@@ -1,13 +1,11 @@
 ghost use Rattle.flow_workflow.specs.Definition.{schema_of};
 ghost use Rattle.flow_plan.specs.Compilation.{IsCompiled};
 
-use crate::logged::{
-    Source, USUAL_BUDGET, USUAL_JOBS, drawn_key, source_in, tell_workflow, told_of,
-};
-use crate::message::{NO_MEMORY, tell};
-use crate::words::form_called;
-use crate::{WORDS, read, unread, write};
+use crate::told::{Source, USUAL_BUDGET, drawn_key, source_in, tell_workflow, told_of};
 use clap::ArgMatches;
+use flow_call::{
+    NO_MEMORY, USUAL_JOBS, WORDS, format_called, read_file, say_undrawn, say_unread, write_out,
+};
 use flow_desk::{Format, GREATEST_INPUT, drawn_with_counts};
 use flow_front::Prepared;
 use flow_log_cli::{passing_cases, workflow_of};
@@ -44,13 +42,13 @@ fn draw_cases<R: Files<File = File> + AllocGlobal + Print + Eprint + Threads + S
     };
     drop(told);
     match drawn_with_counts(rt.alloc(), drawing.text, &counts, drawing.form) {
-        Ok(picture) => write(rt, &picture),
-        Err(stop) => tell(rt, drawing.file, drawing.text, "", &stop),
+        Ok(picture) => write_out(rt, &picture),
+        Err(stop) => say_undrawn(rt, drawing.file, drawing.text, "", &stop),
     }
 }
 
 /// Draws the workflow that the words name with how many cases of the log passed each leaf, and gives the status.
-pub(crate) fn draw_log<
+pub fn draw_log<
     R: Files<File = File> + RandomSource + AllocGlobal + Print + Eprint + Threads + Sync,
 >(rt: &R, matches: &ArgMatches<'_>) -> u8 {
     let key = match drawn_key(rt) {
@@ -63,11 +61,11 @@ pub(crate) fn draw_log<
     ) else {
         return WORDS;
     };
-    let text = match read(rt, file, GREATEST_INPUT) {
+    let text = match read_file(rt, file, GREATEST_INPUT) {
         Ok(text) => text,
-        Err(error) => return unread(rt, file, error),
+        Err(error) => return say_unread(rt, file, error),
     };
-    let form = form_called(matches.get_str("form"));
+    let form = format_called(matches.get_str("form"));
     match workflow_of(rt.alloc(), &text) {
         Ok(prepared) => {
             let text = text.as_slice();

@@ -1,9 +1,8 @@
 //! A case is drawn.
 
-use crate::case_faults::tell_folder;
-use crate::cases::{WAIT, opened, stamp};
-use crate::message::tell;
-use crate::{NO_MEMORY, write};
+use crate::asked::{WAIT, opened, stamp};
+use crate::faults::say_folder;
+use flow_call::{NO_MEMORY, say_undrawn, write_out};
 use flow_case_book::Asker;
 use flow_case_files::read_case;
 use flow_case_talk::Form;
@@ -14,22 +13,22 @@ use std::rt::Files;
 use std::time::{Clock, Duration};
 
 /// Draws the workflow of the case with marks where its run stands, and gives the status.
-pub(crate) fn draw_case<R: Files<File = File> + Clock + AllocGlobal + Print + Eprint>(
+pub fn draw_case<R: Files<File = File> + Clock + AllocGlobal + Print + Eprint>(
     rt: &R,
     case: &str,
     form: Format,
 ) -> u8 {
     let text = match read_case(rt, case) {
         Ok(texts) => texts.workflow,
-        Err(fault) => return tell_folder(rt, case, fault),
+        Err(fault) => return say_folder(rt, case, fault),
     };
     let report = match report_of(rt, case) {
         Ok(report) => report,
         Err(status) => return status,
     };
     match drawn(rt.alloc(), &text, Some(&report), form) {
-        Ok(picture) => write(rt, &picture),
-        Err(stop) => tell(rt, case, &text, case, &stop),
+        Ok(picture) => write_out(rt, &picture),
+        Err(stop) => say_undrawn(rt, case, &text, case, &stop),
     }
 }
 

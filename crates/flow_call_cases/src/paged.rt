@@ -1,11 +1,9 @@
 //! The page of a case.
 
-use crate::case_faults::tell_folder;
-use crate::cases::{FileCase, opened, stamp, wait_in};
-use crate::logged::option;
-use crate::message::tell;
-use crate::{NO_MEMORY, write};
-use clap::{Arg, ArgAction, ArgMatches, Command};
+use crate::asked::{FileCase, opened, stamp, wait_in};
+use crate::faults::say_folder;
+use clap::{ArgMatches, Command};
+use flow_call::{NO_MEMORY, option, required, say_undrawn, write_out};
 use flow_case_book::Asker;
 use flow_case_files::read_case;
 use flow_case_page::{CaseShown, case_page};
@@ -18,12 +16,8 @@ use std::rt::Files;
 use std::time::Clock;
 
 /// The words that ask for the page of a case.
-pub(crate) fn page_command<'a>(alloc: Global) -> Result<Command<'a>, AllocError> {
-    let case = Arg::new(alloc, "case")
-        .value_name("CASE")
-        .help("the folder of the case")
-        .required(true)
-        .action(ArgAction::Set);
+pub fn page_command<'a>(alloc: Global) -> Result<Command<'a>, AllocError> {
+    let case = required(alloc, "case", "CASE", "the folder of the case");
     Command::new(alloc, "page")
         .about(
             "Writes the page of a case as HTML: what may be begun, what is out, its picture and history",
@@ -39,7 +33,7 @@ pub(crate) fn page_command<'a>(alloc: Global) -> Result<Command<'a>, AllocError>
 }
 
 /// Writes the page of a case, and gives the status.
-pub(crate) fn write_page<R: Files<File = File> + Clock + AllocGlobal + Print + Eprint>(
+pub fn write_page<R: Files<File = File> + Clock + AllocGlobal + Print + Eprint>(
     rt: &R,
     words: &ArgMatches<'_>,
 ) -> u8 {
@@ -50,7 +44,7 @@ pub(crate) fn write_page<R: Files<File = File> + Clock + AllocGlobal + Print + E
     let at = words.get_str("at").unwrap_or(now.as_str());
     let text = match read_case(rt, case) {
         Ok(texts) => texts.workflow,
-        Err(fault) => return tell_folder(rt, case, fault),
+        Err(fault) => return say_folder(rt, case, fault),
     };
     match opened(rt, case, wait_in(words), at) {
         Ok(mut book) => {
@@ -80,10 +74,10 @@ fn show<'a, R: Files<File = File> + AllocGlobal + Print + Eprint>(
     };
     let picture = match drawn(rt.alloc(), text, Some(&report.text), Format::Svg) {
         Ok(picture) => picture,
-        Err(stop) => return tell(rt, case, text, case, &stop),
+        Err(stop) => return say_undrawn(rt, case, text, case, &stop),
     };
     match printed(rt.alloc(), book, text, picture, at) {
-        Ok(page) => write(rt, &page),
+        Ok(page) => write_out(rt, &page),
         Err(AllocError) => NO_MEMORY,
     }
 }

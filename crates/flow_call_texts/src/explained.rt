@@ -1,6 +1,5 @@
-use crate::logged::option;
-use crate::{NO_MEMORY, read, unread, write};
-use clap::{Arg, ArgAction, ArgMatches, Command};
+use clap::{ArgMatches, Command};
+use flow_call::{NO_MEMORY, flag, option, read_file, required, say_unread, write_out};
 use flow_desk::GREATEST_INPUT;
 use flow_front::Output;
 use flow_run_why_cli::{explain_journal, explain_query, explain_session};
@@ -10,20 +9,23 @@ use std::fs::File;
 use std::rt::Files;
 
 /// The words that ask what is wrong with a workflow, or with what is asked of it.
-pub(crate) fn explain_command<'a>(alloc: Global) -> Result<Command<'a>, AllocError> {
-    let file = Arg::new(alloc, "file")
-        .value_name("FILE")
-        .help("the text of a workflow; what stands behind a line %% is not looked at")
-        .required(true)
-        .action(ArgAction::Set);
-    let circles = Arg::new(alloc, "circles")
-        .long("circles")
-        .help("tells the circle of each option of an inconsistent workflow, too")
-        .action(ArgAction::SetTrue);
-    let json = Arg::new(alloc, "json")
-        .long("json")
-        .help("tells it as JSON objects, each on a line, without circles")
-        .action(ArgAction::SetTrue);
+pub fn explain_command<'a>(alloc: Global) -> Result<Command<'a>, AllocError> {
+    let file = required(
+        alloc,
+        "file",
+        "FILE",
+        "the text of a workflow; what stands behind a line %% is not looked at",
+    );
+    let circles = flag(
+        alloc,
+        "circles",
+        "tells the circle of each option of an inconsistent workflow, too",
+    );
+    let json = flag(
+        alloc,
+        "json",
+        "tells it as JSON objects, each on a line, without circles",
+    );
     let command = Command::new(alloc, "explain")
         .about("Tells why a workflow is refused or inconsistent, and why tasks wait")
         .arg(file)?
@@ -92,9 +94,9 @@ fn text_of<R: Files<File = File> + AllocGlobal + Eprint>(
     let Some(path) = matches.get_str(name) else {
         return Ok(None);
     };
-    match read(rt, path, GREATEST_INPUT) {
+    match read_file(rt, path, GREATEST_INPUT) {
         Ok(text) => Ok(Some(text)),
-        Err(error) => Err(unread(rt, path, error)),
+        Err(error) => Err(say_unread(rt, path, error)),
     }
 }
 
@@ -149,12 +151,12 @@ fn output_of<R: Files<File = File> + AllocGlobal + Eprint>(
 }
 
 /// Tells what is wrong with the workflow that the words name, or with what is asked of it, and gives the status.
-pub(crate) fn explain_file<R: Files<File = File> + AllocGlobal + Print + Eprint>(
+pub fn explain_file<R: Files<File = File> + AllocGlobal + Print + Eprint>(
     rt: &R,
     matches: &ArgMatches<'_>,
 ) -> u8 {
     match output_of(rt, matches) {
-        Ok(output) => match write(rt, &output.text) {
+        Ok(output) => match write_out(rt, &output.text) {
             0 => output.status.code(),
             fault => fault,
         },

@@ -1,9 +1,9 @@
 //! The folder of a case is made.
 
-use crate::case_faults::{tell_folder, tell_policy, tell_stop};
-use crate::cases::{WAIT, opened, say_begin, say_idle};
-use crate::{read, unread};
+use crate::asked::{WAIT, opened, say_begin, say_idle};
+use crate::faults::{say_folder, say_policy, say_stop};
 use clap::ArgMatches;
+use flow_call::{read_file, say_unread};
 use flow_case_book::{CaseStop, CaseTexts, check_texts};
 use flow_case_files::{GREATEST_TEXT, make_case};
 use std::fs::File;
@@ -11,19 +11,19 @@ use std::rt::{Env, Files};
 use std::time::{Clock, Duration};
 
 /// Makes the folder of a case, and says which of its tasks nobody may take, and what may be begun in it.
-pub(crate) fn make<R: Files<File = File> + Env + Clock + AllocGlobal + Print + Eprint>(
+pub fn make<R: Files<File = File> + Env + Clock + AllocGlobal + Print + Eprint>(
     rt: &R,
     words: &ArgMatches<'_>,
 ) -> u8 {
     let file = words.get_str("workflow").unwrap_or("");
-    let workflow = match read(rt, file, GREATEST_TEXT) {
+    let workflow = match read_file(rt, file, GREATEST_TEXT) {
         Ok(text) => text,
-        Err(error) => return unread(rt, file, error),
+        Err(error) => return say_unread(rt, file, error),
     };
     let policy = match words.get_str("policy") {
-        Some(file) => match read(rt, file, GREATEST_TEXT) {
+        Some(file) => match read_file(rt, file, GREATEST_TEXT) {
             Ok(text) => Some(text),
-            Err(error) => return unread(rt, file, error),
+            Err(error) => return say_unread(rt, file, error),
         },
         None => None,
     };
@@ -34,7 +34,7 @@ pub(crate) fn make<R: Files<File = File> + Env + Clock + AllocGlobal + Print + E
 }
 
 /// The text behind its first line, where that is `%%`: so a policy stands for `flow duty`.
-fn without_divider(text: &[u8]) -> &[u8] {
+pub fn without_divider(text: &[u8]) -> &[u8] {
     match text {
         [b'%', b'%', b'\n', rest @ ..] => rest,
         _ => text,
@@ -58,9 +58,9 @@ fn make_governed<'x, R: Files<File = File> + Clock + AllocGlobal + Print + Eprin
         Ok(()) => make_checked(rt, words, texts),
         Err(CaseStop::Policy(refusal)) => {
             let file = words.get_str("policy").unwrap_or("");
-            tell_policy(rt, file, before, policy, &refusal)
+            say_policy(rt, file, before, policy, &refusal)
         }
-        Err(stop) => tell_stop(rt, words.get_str("case").unwrap_or(""), stop),
+        Err(stop) => say_stop(rt, words.get_str("case").unwrap_or(""), stop),
     }
 }
 
@@ -74,7 +74,7 @@ fn make_free<R: Files<File = File> + Clock + AllocGlobal + Print + Eprint>(
     let texts = CaseTexts { workflow, policy };
     match check_texts(rt.alloc(), texts) {
         Ok(()) => make_checked(rt, words, texts),
-        Err(stop) => tell_stop(rt, words.get_str("case").unwrap_or(""), stop),
+        Err(stop) => say_stop(rt, words.get_str("case").unwrap_or(""), stop),
     }
 }
 
@@ -87,7 +87,7 @@ fn make_checked<R: Files<File = File> + Clock + AllocGlobal + Print + Eprint>(
     let case = words.get_str("case").unwrap_or("");
     let tidied = words.get_flag("tidy");
     if let Err(fault) = make_case(rt, case, texts.workflow, texts.policy, tidied) {
-        return tell_folder(rt, case, fault);
+        return say_folder(rt, case, fault);
     }
     match opened(rt, case, Duration::from_secs(WAIT), "") {
         Ok(mut book) => {

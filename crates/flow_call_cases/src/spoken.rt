@@ -1,19 +1,16 @@
 //! A dialogue with a case: each line is answered before the next is read. At a terminal the case stands before each line.
 
-use crate::cases::{FileCase, REFUSED, ask_line, asker_in, opened, stamp, wait_in};
-use crate::{NO_MEMORY, write};
+use crate::asked::{FileCase, ask_line, asker_in, opened, stamp, wait_in};
 use clap::ArgMatches;
+use flow_call::{NO_MEMORY, READ_FAULT, REFUSED, write_out};
 use std::alloc::AllocError;
 use std::fs::File;
 use std::io::BufRead;
 use std::rt::{Env, Files};
 use std::time::Clock;
 
-/// The status where standard input could not be read.
-const READ_FAULT: u8 = 4;
-
 /// Answers the lines of standard input, each before the next is read.
-pub(crate) fn dialogue<
+pub fn dialogue<
     R: Files<File = File> + Env + Clock + AllocGlobal + Print + Eprint,
     I: BufRead + Drop,
 >(rt: &R, words: &ArgMatches<'_>, input: I, at_terminal: bool) -> u8 {
@@ -40,7 +37,7 @@ fn prompt(rt: &(impl AllocGlobal + Print + Eprint), words: &ArgMatches<'_>, is_w
     }
     let case = words.get_str("case").unwrap_or("");
     match format!(in rt.alloc(); "{case}> ") {
-        Ok(text) => write(rt, text.as_bytes()),
+        Ok(text) => write_out(rt, text.as_bytes()),
         Err(AllocError) => NO_MEMORY,
     }
 }

@@ -1,8 +1,8 @@
 //! A case is checked.
 
-use crate::cases::{FileCase, REFUSED, opened, stamp, wait_in};
-use crate::{NO_MEMORY, unread, write};
+use crate::asked::{FileCase, opened, stamp, wait_in};
 use clap::ArgMatches;
+use flow_call::{NO_MEMORY, REFUSED, say_unread, write_out};
 use flow_case_book::VerifyRefusal;
 use flow_case_files::{ENTRIES, TRAIL, bytes_behind};
 use flow_case_talk::Book;
@@ -20,7 +20,7 @@ const END_OF_ENTRIES: u8 = 0;
 const END_OF_TRAIL: u8 = b'\n';
 
 /// Checks a case, and says where its trail ends, and what its files have that means nothing.
-pub(crate) fn verify<R: Files<File = File> + Clock + AllocGlobal + Print + Eprint>(
+pub fn verify<R: Files<File = File> + Clock + AllocGlobal + Print + Eprint>(
     rt: &R,
     words: &ArgMatches<'_>,
 ) -> u8 {
@@ -48,7 +48,7 @@ fn say_checked<'a, R: Files<File = File> + AllocGlobal + Print + Eprint>(
         Ok(()) => say_whole(rt, case, book),
         Err(VerifyRefusal::NoMemory) => NO_MEMORY,
         Err(refusal) => match format!(in rt.alloc(); "{refusal}\n") {
-            Ok(text) => match write(rt, text.as_bytes()) {
+            Ok(text) => match write_out(rt, text.as_bytes()) {
                 0 => REFUSED,
                 fault => fault,
             },
@@ -66,7 +66,7 @@ fn say_whole<'a, R: Files<File = File> + AllocGlobal + Print + Eprint>(
     let Ok(line) = whole_line(rt, book) else {
         return NO_MEMORY;
     };
-    let fault = write(rt, line.as_bytes());
+    let fault = write_out(rt, line.as_bytes());
     if fault != 0 {
         return fault;
     }
@@ -100,18 +100,18 @@ fn say_behind<R: Files<File = File> + AllocGlobal + Print + Eprint>(
     };
     let file = match File::open(rt, &path) {
         Ok(file) => file,
-        Err(error) => return unread(rt, &path, error),
+        Err(error) => return say_unread(rt, &path, error),
     };
     match bytes_behind(rt.alloc(), file, meant, end) {
         Ok(0) => 0,
         Ok(count) => say_count(rt, &path, count),
-        Err(error) => unread(rt, &path, error),
+        Err(error) => say_unread(rt, &path, error),
     }
 }
 
 fn say_count(rt: &(impl AllocGlobal + Print + Eprint), path: &str, count: usize) -> u8 {
     match format!(in rt.alloc(); "{path}: bytes at its end that mean nothing: {count}\n") {
-        Ok(text) => write(rt, text.as_bytes()),
+        Ok(text) => write_out(rt, text.as_bytes()),
         Err(AllocError) => NO_MEMORY,
     }
 }

@@ -1,4 +1,5 @@
 use clap::{Arg, ArgAction, ArgMatches, Command};
+use flow_call::{flag, option, required};
 use std::alloc::{AllocError, Global};
 
 /// What stands behind the name of a case.
@@ -97,29 +98,12 @@ const COMMANDS: [CaseCommand; 15] = [
 ];
 
 /// Whether it is the name of a command of a case.
-pub(crate) fn is_case_command(name: &str) -> bool {
+pub fn is_case_command(name: &str) -> bool {
     COMMANDS.iter().any(|command| command.name == name)
 }
 
-fn option<'a>(
-    alloc: Global,
-    name: &'static str,
-    value: &'static str,
-    help: &'static str,
-) -> Arg<'a> {
-    Arg::new(alloc, name)
-        .long(name)
-        .value_name(value)
-        .help(help)
-        .action(ArgAction::Set)
-}
-
 fn case_arg<'a>(alloc: Global) -> Arg<'a> {
-    Arg::new(alloc, "case")
-        .value_name("CASE")
-        .help("the folder of the case")
-        .required(true)
-        .action(ArgAction::Set)
+    required(alloc, "case", "CASE", "the folder of the case")
 }
 
 /// An option with a value: its name, what stands for the value, and what it means.
@@ -144,17 +128,15 @@ fn with_options<'a>(alloc: Global, command: Command<'a>) -> Result<Command<'a>, 
 }
 
 fn json_arg<'a>(alloc: Global) -> Arg<'a> {
-    Arg::new(alloc, "json")
-        .long("json")
-        .help("answers in JSON, an object a line")
-        .action(ArgAction::SetTrue)
+    flag(alloc, "json", "answers in JSON, an object a line")
 }
 
 fn quiet_arg<'a>(alloc: Global) -> Arg<'a> {
-    Arg::new(alloc, "quiet")
-        .long("quiet")
-        .help("does not tell what was made: the status does")
-        .action(ArgAction::SetTrue)
+    flag(
+        alloc,
+        "quiet",
+        "does not tell what was made: the status does",
+    )
 }
 
 fn task_arg<'a>(alloc: Global, help: &'static str) -> Arg<'a> {
@@ -165,10 +147,7 @@ fn task_arg<'a>(alloc: Global, help: &'static str) -> Arg<'a> {
 }
 
 fn ok_arg<'a>(alloc: Global) -> Arg<'a> {
-    Arg::new(alloc, "ok")
-        .long("ok")
-        .help("it is undone outside")
-        .action(ArgAction::SetTrue)
+    flag(alloc, "ok", "it is undone outside")
 }
 
 /// The words of one command.
@@ -185,10 +164,11 @@ fn command_of<'a>(alloc: Global, command: &CaseCommand) -> Result<Command<'a>, A
 /// The words that make a case.
 fn new_command<'a>(alloc: Global) -> Result<Command<'a>, AllocError> {
     let workflow = option(alloc, "workflow", "FILE", "the text of the workflow").required(true);
-    let tidy = Arg::new(alloc, "tidy")
-        .long("tidy")
-        .help("each done makes the changes of facts that close off no choice")
-        .action(ArgAction::SetTrue);
+    let tidy = flag(
+        alloc,
+        "tidy",
+        "each done makes the changes of facts that close off no choice",
+    );
     Command::new(alloc, "new")
         .about("Makes the folder of a case")
         .arg(case_arg(alloc))?
@@ -203,10 +183,7 @@ fn new_command<'a>(alloc: Global) -> Result<Command<'a>, AllocError> {
 }
 
 /// The command with those of cases besides.
-pub(crate) fn with_cases<'a>(
-    alloc: Global,
-    command: Command<'a>,
-) -> Result<Command<'a>, AllocError> {
+pub fn with_cases<'a>(alloc: Global, command: Command<'a>) -> Result<Command<'a>, AllocError> {
     let mut command = command.subcommand(new_command(alloc)?)?;
     for case in COMMANDS.iter() {
         let one = command_of(alloc, case)?;

@@ -1,6 +1,6 @@
 //! Why a case is not made, read or opened, in words.
 
-use crate::{DISK, NO_MEMORY};
+use flow_call::{BUSY, DISK, INPUT, NO_MEMORY, REFUSED};
 use flow_case::CasePolicyRefusal;
 use flow_case_book::CaseStop;
 use flow_case_files::FolderFault;
@@ -9,17 +9,8 @@ use flow_desk::{Position, position_of};
 use flow_front::{Status, Stop};
 use std::alloc::AllocError;
 
-/// The status where the case is refused.
-const REFUSED: u8 = 1;
-
-/// The status where a text is refused.
-const TEXT: u8 = 3;
-
-/// The status where another process has the case.
-const IN_USE: u8 = 9;
-
 /// Says why the folder of a case is not read or opened, and gives the status.
-pub(crate) fn tell_folder(rt: &impl Eprint, case: &str, fault: FolderFault) -> u8 {
+pub fn say_folder(rt: &impl Eprint, case: &str, fault: FolderFault) -> u8 {
     match fault {
         FolderFault::Exists => {
             let _ = eprintln!(rt; "{case}: there is something of that name, or of {case}.new");
@@ -31,7 +22,7 @@ pub(crate) fn tell_folder(rt: &impl Eprint, case: &str, fault: FolderFault) -> u
         }
         FolderFault::InUse => {
             let _ = eprintln!(rt; "{case} is in use");
-            IN_USE
+            BUSY
         }
         FolderFault::System(error) => {
             let _ = eprintln!(rt; "{case}: {error}");
@@ -42,7 +33,7 @@ pub(crate) fn tell_folder(rt: &impl Eprint, case: &str, fault: FolderFault) -> u
 }
 
 /// Says that the workflow is refused, and gives the status.
-fn tell_workflow(rt: &impl Eprint, case: &str, stop: &Stop) -> u8 {
+fn say_workflow(rt: &impl Eprint, case: &str, stop: &Stop) -> u8 {
     match stop {
         Stop::Refused(refused) => {
             let _ = eprintln!(rt;
@@ -55,7 +46,7 @@ fn tell_workflow(rt: &impl Eprint, case: &str, stop: &Stop) -> u8 {
 }
 
 /// Says where and why the policy in a file is refused, and gives the status. So many lines of the file stand before the policy.
-pub(crate) fn tell_policy(
+pub fn say_policy(
     rt: &(impl AllocGlobal + Eprint),
     file: &str,
     before: usize,
@@ -72,23 +63,23 @@ pub(crate) fn tell_policy(
         Ok(()) => {
             let words = str::from_utf8(&words).unwrap_or("\n");
             let _ = eprint!(rt; "{file}:{line}:{column}: the policy is refused: {words}");
-            TEXT
+            INPUT
         }
         Err(AllocError) => NO_MEMORY,
     }
 }
 
 /// Says why a case is not opened or made, and gives the status.
-pub(crate) fn tell_stop(rt: &impl Eprint, case: &str, stop: CaseStop) -> u8 {
+pub fn say_stop(rt: &impl Eprint, case: &str, stop: CaseStop) -> u8 {
     match stop {
-        CaseStop::Workflow(stop) => tell_workflow(rt, case, &stop),
+        CaseStop::Workflow(stop) => say_workflow(rt, case, &stop),
         CaseStop::Policy(refusal) => {
             let _ = eprintln!(rt; "{case}: the policy is refused: {refusal}");
-            TEXT
+            INPUT
         }
         CaseStop::LongPolicy => {
             let _ = eprintln!(rt; "{case}: the policy has more than 1048576 bytes");
-            TEXT
+            INPUT
         }
         CaseStop::Foreign(index) => {
             let _ = eprintln!(rt;

@@ -1,10 +1,12 @@
 ghost use Rattle.flow_workflow.specs.Definition.{schema_of};
 ghost use Rattle.flow_plan.specs.Compilation.{IsCompiled};
 
-use crate::message::{NO_MEMORY, REFUSED};
-use crate::{DISK, WORDS, WRITE_FAULT, read, unread, write};
 use clap::builder::ValueParser;
-use clap::{Arg, ArgAction, ArgMatches, Command};
+use clap::{ArgMatches, Command};
+use flow_call::{
+    DISK, INPUT, MOST_JOBS, NO_MEMORY, REFUSED, USUAL_JOBS, WORDS, WRITE_FAULT, number_in, option,
+    read_file, required, say_unread, write_out,
+};
 use flow_desk::GREATEST_INPUT;
 use flow_event_log::{Column, LogFault, LogRefusal, NamesKey, Wanted};
 use flow_front::Prepared;
@@ -23,30 +25,11 @@ use std::thread::Threads;
 /// The longest map that is read, in bytes.
 const GREATEST_MAP: usize = 16_777_216;
 
-/// The status where a case deviates, or nothing is decided of it.
-const DEVIATES: u8 = 1;
-
-/// How many threads there are at most, and how many states one search makes where nothing is asked.
-const MOST_JOBS: u32 = 64;
-
-pub(crate) const USUAL_JOBS: u32 = 4;
-
+/// How many states one search makes where nothing is asked.
 pub(crate) const USUAL_BUDGET: u32 = 100_000;
 
-/// A word that takes a value.
-pub(crate) fn option<'a>(alloc: Global, name: &'a str, value: &'a str, help: &'a str) -> Arg<'a> {
-    Arg::new(alloc, name)
-        .long(name)
-        .value_name(value)
-        .help(help)
-        .action(ArgAction::Set)
-}
-
 /// The words that say how the rows of a log are read.
-pub(crate) fn with_columns<'a>(
-    alloc: Global,
-    command: Command<'a>,
-) -> Result<Command<'a>, AllocError> {
+pub fn with_columns<'a>(alloc: Global, command: Command<'a>) -> Result<Command<'a>, AllocError> {
     command
         .arg(option(alloc, "case", "COLUMN", "the column of the case"))?
         .arg(option(alloc, "activity", "COLUMN", "the column of the activity"))?
@@ -65,12 +48,13 @@ pub(crate) fn with_columns<'a>(
 }
 
 /// The words that ask which cases of a log keep to a workflow.
-pub(crate) fn log_command<'a>(alloc: Global) -> Result<Command<'a>, AllocError> {
-    let log = Arg::new(alloc, "log")
-        .value_name("LOG")
-        .help("a CSV file; its first row names the columns, and each other row is an event")
-        .required(true)
-        .action(ArgAction::Set);
+pub fn log_command<'a>(alloc: Global) -> Result<Command<'a>, AllocError> {
+    let log = required(
+        alloc,
+        "log",
+        "LOG",
+        "a CSV file; its first row names the columns, and each other row is an event",
+    );
     let workflow = option(alloc, "workflow", "FILE", "the text of the workflow").required(true);
     let form = option(alloc, "form", "FORM", "how the answer is written")
         .value_parser(ValueParser::Names(&["text", "csv", "json"]))
@@ -119,17 +103,6 @@ struct Words<'a> {
     workflow: &'a str,
     journals: Option<&'a str>,
     form: Form,
-}
-
-/// A number within its bounds, or nothing where the word is none.
-fn number_in(word: Option<&str>, usual: u32, most: u32) -> Option<u32> {
-    match word {
-        Some(word) => match word.parse::<u32>() {
-            Ok(number) if number >= 1 && number <= most => Some(number),
-            _ => None,
-        },
-        None => Some(usual),
-    }
 }
 
 /// A key that nobody knows: names of a log are hashed by it.
@@ -219,7 +192,7 @@ fn tell_refusal(rt: &impl Eprint, log: &str, refusal: &LogRefusal) -> u8 {
             let _ = eprintln!(rt; "{log}:{line}: refused: too many lines");
         }
     }
-    REFUSED
+    INPUT
 }
 
 /// Writes why nothing is told, and gives the status.
@@ -229,11 +202,11 @@ fn tell_stop(rt: &impl Eprint, source: &Source<'_>, stop: LogStop) -> u8 {
     match stop {
         LogStop::Map(MapRefusal::NoPair { line }) => {
             let _ = eprintln!(rt; "{map}:{line}: refused: a row has an activity and an event");
-            REFUSED
+            INPUT
         }
         LogStop::Map(MapRefusal::NoEvent { line }) => {
             let _ = eprintln!(rt; "{map}:{line}: refused: the workflow has no event of this name");
-            REFUSED
+            INPUT
         }
         LogStop::Log(LogFault::Refused(refusal)) => tell_refusal(rt, log, &refusal),
         LogStop::Log(LogFault::Read) => {
@@ -270,7 +243,7 @@ fn write_journals<R: Files<File = File> + AllocGlobal + Eprint>(
             return NO_MEMORY;
         };
         if let Err(error) = fs::write(rt, path.as_str(), journal.as_slice()) {
-            return unread(rt, path.as_str(), error);
+            return say_unread(rt, path.as_str(), error);
         }
     }
     0
@@ -278,7 +251,7 @@ fn write_journals<R: Files<File = File> + AllocGlobal + Eprint>(
 
 /// The status of an answer.
 fn status_of(told: &Told) -> u8 {
-    if told.fits() { 0 } else { DEVIATES }
+    if told.fits() { 0 } else { REFUSED }
 }
 
 /// Writes the answer and the journals, and gives the status.
@@ -311,7 +284,7 @@ fn read_map_file<R: Files<File = File> + AllocGlobal>(
     path: Option<&str>,
 ) -> io::Result<Option<Vec<u8>>> {
     match path {
-        Some(path) => Ok(Some(read(rt, path, GREATEST_MAP)?)),
+        Some(path) => Ok(Some(read_file(rt, path, GREATEST_MAP)?)),
         None => Ok(None),
     }
 }
@@ -326,11 +299,11 @@ pub(crate) fn told_of<R: Files<File = File> + AllocGlobal + Eprint + Threads + S
 {
     let map = match read_map_file(rt, source.map) {
         Ok(map) => map,
-        Err(error) => return Err(unread(rt, source.map.unwrap_or(""), error)),
+        Err(error) => return Err(say_unread(rt, source.map.unwrap_or(""), error)),
     };
     let file = match File::open(rt, source.log) {
         Ok(file) => file,
-        Err(error) => return Err(unread(rt, source.log, error)),
+        Err(error) => return Err(say_unread(rt, source.log, error)),
     };
     let bytes = match &map {
         Some(map) => Some(map.as_slice()),
@@ -370,7 +343,7 @@ pub(crate) fn tell_workflow(rt: &(impl AllocGlobal + Print + Eprint), text: &[u8
     match explain(rt.alloc(), text, ExplainForm::Words) {
         Ok(output) => {
             let status = output.status.code();
-            match write(rt, &output.text) {
+            match write_out(rt, &output.text) {
                 0 => status,
                 fault => fault,
             }
@@ -383,12 +356,12 @@ pub(crate) fn tell_workflow(rt: &(impl AllocGlobal + Print + Eprint), text: &[u8
 pub(crate) fn drawn_key(rt: &(impl RandomSource + Eprint)) -> Result<NamesKey, u8> {
     match key_of(rt) {
         Ok(key) => Ok(key),
-        Err(error) => Err(unread(rt, "flowdesk: random numbers", error)),
+        Err(error) => Err(say_unread(rt, "flowdesk: random numbers", error)),
     }
 }
 
 /// Tells which cases of the log that the words name keep to the workflow, and gives the status.
-pub(crate) fn log_file<
+pub fn log_file<
     R: Files<File = File> + RandomSource + AllocGlobal + Print + Eprint + Threads + Sync,
 >(rt: &R, matches: &ArgMatches<'_>) -> u8 {
     let key = match drawn_key(rt) {
@@ -399,9 +372,9 @@ pub(crate) fn log_file<
         let _ = eprintln!(rt; "flowdesk log: --jobs is 1 to {MOST_JOBS}, --budget is 1 or more");
         return WORDS;
     };
-    let text = match read(rt, words.workflow, GREATEST_INPUT) {
+    let text = match read_file(rt, words.workflow, GREATEST_INPUT) {
         Ok(text) => text,
-        Err(error) => return unread(rt, words.workflow, error),
+        Err(error) => return say_unread(rt, words.workflow, error),
     };
     match workflow_of(rt.alloc(), &text) {
         Ok(prepared) => tell_cases(rt, &words, &text, &prepared),

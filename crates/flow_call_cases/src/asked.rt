@@ -1,10 +1,10 @@
 //! Cases: folders that are driven by names.
 ghost use Rattle.std.specs.Prelude.{◌≡◌};
 
-use crate::case_faults::{tell_folder, tell_stop};
-use crate::case_words::line_in;
-use crate::{NO_MEMORY, write};
+use crate::faults::{say_folder, say_stop};
+use crate::words::line_in;
 use clap::ArgMatches;
+use flow_call::{NO_MEMORY, REFUSED, write_out};
 use flow_case_book::{Asker, CaseBook, KeptTexts, open_case};
 use flow_case_files::{CaseDisks, open_disks, read_case};
 use flow_case_talk::{Form, Outcome, Reply, begin_line, idle_lines};
@@ -15,9 +15,6 @@ use std::env;
 use std::fs::File;
 use std::rt::{Env, Files};
 use std::time::{Clock, Duration};
-
-/// The status where the case, or what was asked of it, is refused.
-pub(crate) const REFUSED: u8 = 1;
 
 /// How many seconds a command waits for another one, where it is not told.
 pub(crate) const WAIT: u64 = 5;
@@ -95,7 +92,7 @@ fn texts_of<R: Files<File = File> + AllocGlobal + Eprint>(
 ) -> Result<KeptTexts, u8> {
     let texts = match read_case(rt, case) {
         Ok(texts) => texts,
-        Err(fault) => return Err(tell_folder(rt, case, fault)),
+        Err(fault) => return Err(say_folder(rt, case, fault)),
     };
     match text_or(rt, None, case) {
         Ok(path) => Ok(KeptTexts {
@@ -121,7 +118,7 @@ pub(crate) fn opened<'a, R: Files<File = File> + Clock + AllocGlobal + Eprint>(
     };
     match open_disks(rt, case, wait) {
         Ok(disks) => opened_with(rt, case, kept, disks, at),
-        Err(fault) => Err(tell_folder(rt, case, fault)),
+        Err(fault) => Err(say_folder(rt, case, fault)),
     }
 }
 
@@ -139,7 +136,7 @@ fn opened_with<'a, R: Files<File = File> + Clock + AllocGlobal + Eprint>(
     let CaseDisks { entries, trail } = disks;
     match open_case(rt.alloc(), kept, entries, trail, at) {
         Ok(book) => Ok(book),
-        Err(stop) => Err(tell_stop(rt, case, stop)),
+        Err(stop) => Err(say_stop(rt, case, stop)),
     }
 }
 
@@ -148,7 +145,7 @@ fn say(rt: &(impl Print + Eprint), words: &ArgMatches<'_>, reply: &Reply) -> u8 
     if reply.outcome == Outcome::Made && words.get_flag("quiet") {
         return 0;
     }
-    match write(rt, &reply.text) {
+    match write_out(rt, &reply.text) {
         0 if reply.outcome == Outcome::Refused => REFUSED,
         status => status,
     }
@@ -192,7 +189,7 @@ fn ask_once<R: Files<File = File> + Clock + AllocGlobal + Print + Eprint>(
 }
 
 /// One command on a case.
-pub(crate) fn ask_case<R: Files<File = File> + Env + Clock + AllocGlobal + Print + Eprint>(
+pub fn ask_case<R: Files<File = File> + Env + Clock + AllocGlobal + Print + Eprint>(
     rt: &R,
     name: &str,
     words: &ArgMatches<'_>,
@@ -212,7 +209,7 @@ pub(crate) fn say_idle<'a, R: Files<File = File> + AllocGlobal + Print + Eprint>
     book: &FileCase<'a, R>,
 ) -> u8 {
     match idle_lines(rt.alloc(), book) {
-        Ok(lines) => write(rt, &lines),
+        Ok(lines) => write_out(rt, &lines),
         Err(AllocError) => NO_MEMORY,
     }
 }
@@ -223,7 +220,7 @@ pub(crate) fn say_begin<'a, R: Files<File = File> + AllocGlobal + Print + Eprint
     book: &mut FileCase<'a, R>,
 ) -> u8 {
     match begin_line(rt.alloc(), book) {
-        Ok(line) => write(rt, &line),
+        Ok(line) => write_out(rt, &line),
         Err(AllocError) => NO_MEMORY,
     }
 }

@@ -1,0 +1,14 @@
+//! What each call of `flowdesk` reads and writes, and its statuses.
+#![tactic(auto)]
+
+mod input;
+mod message;
+mod output;
+mod status;
+mod words;
+
+pub use input::{is_folder, read_file};
+pub use message::{say_undrawn, say_unread};
+pub use output::write_out;
+pub use status::{BUSY, DISK, INPUT, NO_MEMORY, READ_FAULT, REFUSED, WORDS, WRITE_FAULT};
+pub use words::{MOST_JOBS, USUAL_JOBS, flag, format_called, number_in, option, required};

@@ -1,0 +1,10 @@
+//! The calls of `flowdesk` on texts of workflows: what is wrong with one, what to look at, and its picture.
+#![tactic(auto)]
+
+mod drawn;
+mod explained;
+mod linted;
+
+pub use drawn::{draw_file, drawing_arguments};
+pub use explained::{explain_command, explain_file};
+pub use linted::{lint_command, lint_file};
