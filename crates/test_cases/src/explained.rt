@@ -9,12 +9,12 @@ use flow_why_cli::{Form, explain};
 use std::alloc::Global;
 
 /// Whether a word is among those of the call.
-fn has_word(words: &[String], wanted: &str) -> bool {
+pub(crate) fn has_word(words: &[String], wanted: &str) -> bool {
     words.iter().any(|word| word.as_str() == wanted)
 }
 
 /// The word behind another one.
-fn word_behind<'a>(words: &'a [String], wanted: &str) -> Option<&'a str> {
+pub(crate) fn word_behind<'a>(words: &'a [String], wanted: &str) -> Option<&'a str> {
     let place = words.iter().position(|word| word.as_str() == wanted)?;
     let word = words.get(place.saturating_add(1))?;
     Some(word.as_str())

@@ -10,6 +10,7 @@ mod explained;
 mod kept;
 mod linted;
 mod pieces;
+mod questioned;
 mod rows;
 
 use anyhow::{Context, Result};
@@ -19,6 +20,7 @@ use drawn::drawn_by;
 use explained::explained_by;
 use kept::{call_of, stands_when_stopped};
 use linted::linted_by;
+use questioned::questioned_by;
 use rows::Row;
 use std::alloc::Global;
 use std::rt::{Env, Files};
@@ -76,12 +78,21 @@ fn is_kept<R: Print + AllocGlobal>(rt: &R, words: &[String], row: &Row<'_>) -> R
     Ok(false)
 }
 
+/// Whether the call asks a policy.
+fn is_question(words: &str) -> bool {
+    words.starts_with("flowdesk alone")
+        || words.starts_with("flowdesk staffed")
+        || words.starts_with("flowdesk lint --policy")
+}
+
 /// Whether the call of `flowdesk` draws, tells or replies what the row says.
 fn is_drawn<R: Print + AllocGlobal>(rt: &R, words: &[String], row: &Row<'_>) -> Result<bool> {
     let (status, written) = if row.words.starts_with("flowdesk explain") {
         explained_by(rt.alloc(), words, row)?
     } else if row.words.starts_with("flowdesk open") {
         spoken_by(rt.alloc(), words, row)?
+    } else if is_question(row.words) {
+        questioned_by(rt.alloc(), words, row)?
     } else if row.words.starts_with("flowdesk lint") {
         linted_by(rt.alloc(), words, row)?
     } else {
