@@ -136,7 +136,9 @@ CHANGES = [
         "The bounds stand as figures in `crates/flow_words/proofs/request/request_in/Answers.antt`.",
         "Where it turns the form of what is written, the printer of each finding is handed it, and so are `flow_cli/specs/Finding.antt` "
         "and the laws: the second list has the printers.",
-        "`flowkeep` and `flowdesk` read their words themselves: `flow_keep_cli/src/words.rt`, `crates/flowdesk/src/words.rt`.",
+        "`flowkeep` reads its words itself: `flow_keep_cli/src/words.rt`. The words of a call of `flowdesk` stand beside the call, in "
+        "`flow_call_texts/src`, `flow_call_logs/src`, `flow_call_cases/src` or `flow_call_folders/src`; `crates/flowdesk/src/words.rt` "
+        "names the calls.",
     ], [Thing("an option with a number", r"GREATEST_SIZE|\bsize\b", r"--size",
               only={"flow_words", "flow_cli", "flow_cli_laws", "flow_model", "flow_gen", "flow_reply"}),
         Thing("printers of what a mode finds", r"\bprint_(check|checked|verified|findings|summary|report|refused|reply)\b|finding_text")]),
@@ -192,7 +194,8 @@ CHANGES = [
     Change("A form of picture, a mark", [
         "A picture is data (`flow_view/src/picture.rt`) with places. A form without places is nodes and edges: `flow_chart`. One with "
         "places is a crate beside `flow_svg`.",
-        "Which printer is called is decided in `flow_desk/src/depict.rt`; its word is read in `crates/flowdesk/src/words.rt`.",
+        "Which printer is called is decided in `flow_desk/src/depict.rt`. Its word stands in `flow_call_texts/src/drawn.rt` and is read in "
+        "`flow_call/src/words.rt`.",
         "A mark says where a run stands at a leaf: `flow_desk/specs/Mark.antt` has their order. `bench/pictures.py` tries forms and marks.",
     ], [Thing("a form of picture", r"\b[Mm]ermaid\b|print_mermaid|in_mermaid", r"\b[Mm]ermaid\b"),
         Thing("a mark", r"\bClaimed\b|\bclaimed\b", r"\bclaimed\b", only={"flow_view", "flow_draw", "flow_svg", "flow_chart", "flow_desk"})]),
