@@ -2,6 +2,8 @@
 #![tactic(auto)]
 
 mod exported;
+mod listed;
 mod seen;
 
 pub use exported::{export, export_command};
+pub use listed::{list, list_command};

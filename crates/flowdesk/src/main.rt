@@ -7,7 +7,7 @@ mod words;
 use clap::ArgMatches;
 use flow_call::{NO_MEMORY, WORDS, format_called, is_folder};
 use flow_call_cases::{ask_case, dialogue, draw_case, is_case_command, make, verify, write_page};
-use flow_call_folders::export;
+use flow_call_folders::{export, list};
 use flow_call_logs::{draw_log, log_file};
 use flow_call_policies::answer;
 use flow_call_texts::{draw_file, explain_file, lint_file};
@@ -77,6 +77,7 @@ fn called<
         "lint" => lint(rt, words),
         "alone" | "staffed" => answer(rt, name, words),
         "log" => log_file(rt, words),
+        "list" => list(rt, words),
         "export" => export(rt, words),
         "new" => make(rt, words),
         "page" => write_page(rt, words),

@@ -1,6 +1,6 @@
 use clap::Command;
 use flow_call_cases::{page_command, with_cases};
-use flow_call_folders::export_command;
+use flow_call_folders::{export_command, list_command};
 use flow_call_logs::{log_command, with_columns};
 use flow_call_policies::{alone_command, staffed_command};
 use flow_call_texts::{drawing_arguments, explain_command, lint_command};
@@ -23,6 +23,7 @@ pub(crate) fn desk_command<'a>(alloc: Global) -> Result<Command<'a>, AllocError>
     let staffed = staffed_command(alloc)?;
     let log = log_command(alloc)?;
     let page = page_command(alloc)?;
+    let list = list_command(alloc)?;
     let export = export_command(alloc)?;
     let command = Command::new(alloc, "flowdesk")
         .version("1")
@@ -35,6 +36,7 @@ pub(crate) fn desk_command<'a>(alloc: Global) -> Result<Command<'a>, AllocError>
         .subcommand(staffed)?
         .subcommand(log)?
         .subcommand(page)?
+        .subcommand(list)?
         .subcommand(export)?;
     with_cases(alloc, command)
 }
