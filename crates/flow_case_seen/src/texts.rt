@@ -49,7 +49,7 @@ fn lent(bytes: &Option<Vec<u8>>) -> Option<&[u8]>
 }
 
 /// Where the trail of a case of these texts begins.
-fn start_of(workflow: &[u8], policy: Option<&[u8]>) -> TrailEnd
+fn trail_start(workflow: &[u8], policy: Option<&[u8]>) -> TrailEnd
     ensures { result ≡ first_end workflow.now (unwrap_or (option_map bytes_now policy.entry) []) }
 {
     match policy {
@@ -59,6 +59,7 @@ fn start_of(workflow: &[u8], policy: Option<&[u8]>) -> TrailEnd
 }
 
 /// Reads the texts of cases. They are refused as those of one case are.
+#[tactic(auto, using(crate::proofs::TextLemmas::are_read, crate::proofs::TextLemmas::users_read, crate::proofs::TextLemmas::none_read))]
 pub fn read_texts(
     alloc: Global,
     workflow: Vec<u8>,
@@ -76,7 +77,7 @@ pub fn read_texts(
     match begin(alloc, texts) {
         Ok(Begun { script, run, users }) => {
             drop(run);
-            let start = start_of(&workflow, lent(&policy));
+            let start = trail_start(&workflow, lent(&policy));
             Ok(SharedTexts {
                 workflow,
                 policy,
