@@ -7,27 +7,21 @@ use Rattle.flow_text.specs.Saying.{Says}
 use Rattle.flow_trail.specs.declared.line.TrailEnd.{TrailEnd}
 use Rattle.flow_trail.specs.Due.{first_end}
 use Rattle.flow_case.specs.declared.case_run.CaseRun.{CaseRun}
-use Rattle.flow_case_begin.specs.Begun.{IsBegun, users_of}
+use Rattle.flow_case_begin.specs.Begun.{IsBegun}
 use Rattle.flow_case_begin.specs.declared.stop.CaseStop.{CaseStop}
 use Rattle.flow_case_begin.specs.Stops.{IsNoCaseOf}
-use Rattle.flow_case_seen.specs.Texts.{Shared, AreRead, AreUsersOf}
+use Rattle.flow_case_seen.specs.Texts.{Shared, AreRead}
 
 pub are_read : (workflow : List ℕ) (given policy : Option (List ℕ)) (users : Option (List (List ℕ))) (s : Said) (start : TrailEnd) (begun : CaseRun) →
-    given ≡ policy → Says workflow s → IsClosed s → IsBegun s given begun → users ≡ users_of begun → start ≡ first_end workflow (unwrap_or given []) →
+    given ≡ policy → Says workflow s → IsClosed s → IsBegun s given begun → start ≡ first_end workflow (unwrap_or given []) →
     AreRead (record { workflow = workflow; policy = policy; users = users }) s start
-are_read workflow given policy users s start begun same says closed begins named starts = record {
+are_read workflow given policy users s start begun same says closed begins starts = record {
   says = says;
   closed = closed;
   begun = begun;
   is_begun = subst (λ (p : Option (List ℕ)). IsBegun s p begun) same begins;
-  users = named;
   starts = starts ∙ ap (λ (p : Option (List ℕ)). first_end workflow (unwrap_or p [])) same;
 }
-
-pub users_read : (workflow : List ℕ) (given policy : Option (List ℕ)) (users : Option (List (List ℕ))) (s : Said) (begun : CaseRun) →
-    given ≡ policy → Says workflow s → IsBegun s given begun → users ≡ users_of begun → AreUsersOf workflow policy users
-users_read workflow given policy users s begun same says begins named =
-    (begun, (s, says, subst (λ (p : Option (List ℕ)). IsBegun s p begun) same begins), named)
 
 pub none_read : (workflow : List ℕ) (given policy : Option (List ℕ)) (stop : CaseStop) → given ≡ policy → IsNoCaseOf workflow given stop → IsNoCaseOf workflow policy stop
 none_read workflow given policy stop same why = subst (λ (p : Option (List ℕ)). IsNoCaseOf workflow p stop) same why
