@@ -23,5 +23,7 @@ are_read workflow given policy users s start begun same says closed begins start
   starts = starts ∙ ap (λ (p : Option (List ℕ)). first_end workflow (unwrap_or p [])) same;
 }
 
-pub none_read : (workflow : List ℕ) (given policy : Option (List ℕ)) (stop : CaseStop) → given ≡ policy → IsNoCaseOf workflow given stop → IsNoCaseOf workflow policy stop
-none_read workflow given policy stop same why = subst (λ (p : Option (List ℕ)). IsNoCaseOf workflow p stop) same why
+pub none_read : (read workflow : List ℕ) (given policy : Option (List ℕ)) (stop : CaseStop) → read ≡ workflow → given ≡ policy → IsNoCaseOf read given stop →
+    IsNoCaseOf workflow policy stop
+none_read read workflow given policy stop whole same why =
+    subst (λ (p : Option (List ℕ)). IsNoCaseOf workflow p stop) same (subst (λ (w : List ℕ). IsNoCaseOf w given stop) whole why)
