@@ -90,7 +90,7 @@ _flowdesk() {
         local cases="new take done fail do rewind commit tidy todo why history undone facts report verify open"
         mapfile -t COMPREPLY < <(compgen -W "draw explain lint alone staffed log page export $cases --help --version" -- "$word")
     elif [[ $word == -* && ${COMP_WORDS[1]} == export ]]; then
-        mapfile -t COMPREPLY < <(compgen -W "$(_flow_unused --form --rows)" -- "$word")
+        mapfile -t COMPREPLY < <(compgen -W "$(_flow_unused --form --rows --jobs)" -- "$word")
     elif [[ $word == -* && ${COMP_WORDS[1]} == page ]]; then
         mapfile -t COMPREPLY < <(compgen -W "$(_flow_unused --at --wait)" -- "$word")
     elif [[ $word == -* && ${COMP_WORDS[1]} == new ]]; then
