@@ -133,6 +133,7 @@ pub fn export_command<'a>(alloc: Global) -> Result<Command<'a>, AllocError> {
 }
 
 /// The cases of a folder, and what is written of them.
+#[derive(Drop)]
 struct Office<'a, R> {
     rt: &'a R,
     cases: &'a [String],
