@@ -28,18 +28,25 @@ plain_read b rest l = simp (no38, no9, no10, no13, no32, no60, no62, no34) refl
   where
     no38 : (b == 38) ≡ false
     no38 = grind (arith, nat_tests)
+
     no9 : (b == 9) ≡ false
     no9 = grind (arith, nat_tests)
+
     no10 : (b == 10) ≡ false
     no10 = grind (arith, nat_tests)
+
     no13 : (b == 13) ≡ false
     no13 = grind (arith, nat_tests)
+
     no32 : nat_lt b 32 ≡ false
     no32 = grind (arith, nat_tests)
+
     no60 : (b == 60) ≡ false
     no60 = grind (arith, nat_tests)
+
     no62 : (b == 62) ≡ false
     no62 = grind (arith, nat_tests)
+
     no34 : (b == 34) ≡ false
     no34 = grind (arith, nat_tests)
 
@@ -64,8 +71,10 @@ svg_read b rest high = elim (either_way (b == 38)) [
   where
     no9 : (b == 9) ≡ false
     no9 = grind (arith, nat_tests)
+
     no10 : (b == 10) ≡ false
     no10 = grind (arith, nat_tests)
+
     no13 : (b == 13) ≡ false
     no13 = grind (arith, nat_tests)
 

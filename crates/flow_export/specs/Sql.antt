@@ -3,7 +3,7 @@ use Rattle.std.specs.Prelude.{ℕ, List, [], ◌∷◌, ◌++◌, codes}
 use Rattle.std.specs.Fmt.{decimal}
 use Rattle.std.specs.Str.Lossy.{utf8_lossy}
 use Rattle.flow_draw.specs.Pieces.{joined}
-use Rattle.flow_export.specs.declared.sql_form.TheConstants.{INSERT_EVENTS}
+use Rattle.flow_export.specs.declared.sql_form.TheConstants.{INSERT_CASE, INSERT_EVENTS}
 use Rattle.flow_export.specs.Rows.{Row, kind_word, word_of}
 use Rattle.flow_export.specs.Literal.{literal_text}
 use Rattle.flow_export.specs.Xes.{true_false}
@@ -39,7 +39,7 @@ insert_text [] = []
 insert_text (r ∷ rows) = rows_values INSERT_EVENTS.now (r ∷ rows) ++ codes ";\n"
 
 unfoldable pub insert_case_text : List ℕ → List ℕ
-insert_case_text name = codes "insert into \"cases\" (\"case\") values (" ++ literal_text name ++ codes ");\n"
+insert_case_text name = INSERT_CASE.now ++ literal_text name ++ codes ");\n"
 
 -- a case by its name, and its rows, in order
 unfoldable pub case_text : List ℕ → List Row → List ℕ

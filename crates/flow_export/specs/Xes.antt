@@ -1,7 +1,6 @@
 -- An event log in XES, by IEEE 1849-2016: a trace is a case, an event a row.
 use Rattle.std.specs.Prelude.{◌≡◌, ℕ, ◌==◌, Bool, true, false, if◌then◌else◌, List, [], ◌∷◌, ◌++◌, codes}
 use Rattle.std.specs.Fmt.{decimal}
-use Rattle.std.specs.List.{flat_map}
 use Rattle.std.specs.Str.Lossy.{utf8_lossy}
 use Rattle.flow_draw.specs.Pieces.{joined}
 use Rattle.flow_export.specs.declared.log_event.Lifecycle.{Lifecycle}
@@ -16,12 +15,12 @@ attribute_text type_name key value = joined (
     codes "<" ∷ type_name ∷ codes " key=\"" ∷ key ∷ codes "\" value=\"" ∷ value_text value ∷ codes "\"/>\n" ∷ [])
 
 -- one of a text that may be missing
-abbrev pub told_text : List ℕ → List ℕ → List ℕ
+unfoldable pub told_text : List ℕ → List ℕ → List ℕ
 told_text key [] = []
 told_text key (byte ∷ bytes) = attribute_text (codes "string") key (byte ∷ bytes)
 
 -- when: a date, or as it was told where that is none
-abbrev pub time_text : List ℕ → List ℕ
+unfoldable pub time_text : List ℕ → List ℕ
 time_text at = if is_date_time at then attribute_text (codes "date") (codes "time:timestamp") at else told_text (codes "flow:time") at
 
 -- What happened, in the words of the standard. A failure aborts the task. It has no word of its own for a result that came too late, and
@@ -58,7 +57,12 @@ own_text r =
 unfoldable pub event_text : Row → List ℕ
 event_text r = codes "<event>\n" ++ standard_text r ++ place_text r ++ own_text r ++ codes "</event>\n"
 
--- a case by its name, and the events of its rows, in order
+-- the events of the rows, in order
+abbrev pub events_text : List Row → List ℕ
+events_text [] = []
+events_text (r ∷ rows) = event_text r ++ events_text rows
+
+-- a case by its name, and the events of its rows
 unfoldable pub trace_text : List ℕ → List Row → List ℕ
 trace_text name rows =
-    codes "<trace>\n" ++ attribute_text (codes "string") (codes "concept:name") name ++ flat_map event_text rows ++ codes "</trace>\n"
+    codes "<trace>\n" ++ attribute_text (codes "string") (codes "concept:name") name ++ events_text rows ++ codes "</trace>\n"

@@ -13,13 +13,19 @@ pub(crate) fn is_date_time(text: &[u8]) -> bool
 }
 
 /// Whether the text has that shape: a digit where the shape has a 0, else the byte of the shape.
+#[tactic(auto, unfolding(crate::specs::DateTime::has_shape))]
 fn has_shape(shape: &[u8], text: &[u8]) -> bool
     ensures { result ≡ has_shape shape.now text.now }
 {
-    match (shape, text) {
-        ([], []) => true,
-        ([mark, marks @ ..], [byte, bytes @ ..]) => fits(*mark, *byte) && has_shape(marks, bytes),
-        _ => false,
+    match shape {
+        [] => match text {
+            [] => true,
+            [_, ..] => false,
+        },
+        [mark, marks @ ..] => match text {
+            [] => false,
+            [byte, bytes @ ..] => fits(*mark, *byte) && has_shape(marks, bytes),
+        },
     }
 }
 
@@ -38,7 +44,12 @@ fn digit_at(text: &[u8], place: usize) -> u32
     ensures value { result ≡ digit_at text.now place }
     ensures bound { result ≤ 207 }
 {
-    u32::from(text.get(place).copied().unwrap_or(b'0').saturating_sub(b'0'))
+    u32::from(
+        text.get(place)
+            .copied()
+            .unwrap_or(b'0')
+            .saturating_sub(b'0'),
+    )
 }
 
 /// The number that two digits write.
@@ -74,6 +85,7 @@ fn days_in(year: u32, month: u32) -> u32
 }
 
 /// Whether there is such a day.
+#[tactic(auto, unfolding(crate::specs::DateTime::is_day))]
 fn is_day(text: &[u8]) -> bool
     ensures { result ≡ is_day text.now }
 {
@@ -84,6 +96,7 @@ fn is_day(text: &[u8]) -> bool
 }
 
 /// Whether there is such a time of a day.
+#[tactic(auto, unfolding(crate::specs::DateTime::is_time))]
 fn is_time(text: &[u8]) -> bool
     ensures { result ≡ is_time text.now }
 {
@@ -91,6 +104,7 @@ fn is_time(text: &[u8]) -> bool
 }
 
 /// Whether the text is a zone by its hours and minutes, at most 14 hours from UTC.
+#[tactic(auto, unfolding(crate::specs::DateTime::is_offset))]
 fn is_offset(text: &[u8]) -> bool
     ensures { result ≡ is_offset text.now }
 {
@@ -99,6 +113,7 @@ fn is_offset(text: &[u8]) -> bool
         && 100 * two_at(text, 1) + two_at(text, 4) <= 1400
 }
 
+#[tactic(auto, unfolding(crate::specs::DateTime::is_zone))]
 fn is_zone(text: &[u8]) -> bool
     ensures { result ≡ is_zone text.now }
 {
@@ -106,6 +121,7 @@ fn is_zone(text: &[u8]) -> bool
 }
 
 /// Whether the text is one digit or more, parts of a second, and a zone.
+#[tactic(auto, unfolding(crate::specs::DateTime::is_parts))]
 fn is_parts(text: &[u8]) -> bool
     ensures { result ≡ is_parts text.now }
 {
@@ -123,6 +139,7 @@ fn is_parts(text: &[u8]) -> bool
 }
 
 /// Whether the text is what stands behind the seconds.
+#[tactic(auto, unfolding(crate::specs::DateTime::is_rest))]
 fn is_rest(text: &[u8]) -> bool
     ensures { result ≡ is_rest text.now }
 {

@@ -31,8 +31,12 @@ begin;
 /// What stands behind the cases of a log in SQL.
 pub const SQL_END: &[u8] = b"commit;\n";
 
+/// How the statement begins that adds a case.
+pub(crate) const INSERT_CASE: &[u8] = b"insert into \"cases\" (\"case\") values (";
+
 /// How the statement begins that adds events.
-pub(crate) const INSERT_EVENTS: &[u8] = b"insert into \"events\" (\"case\", \"entry\", \"activity\", \"kind\", \"leaf\", \"lifecycle\", \"timestamp\", \"resource\", \"counts\", \"note\") values
+pub(crate) const INSERT_EVENTS: &[u8] =
+    b"insert into \"events\" (\"case\", \"entry\", \"activity\", \"kind\", \"leaf\", \"lifecycle\", \"timestamp\", \"resource\", \"counts\", \"note\") values
 ";
 
 /// The statements that add a case and its rows.
@@ -61,7 +65,7 @@ fn push_case(
 fn push_insert_case(text: &mut Vec<u8>, case: &str) -> Result<(), AllocError>
     ensures { OnOk result (text.new.items ≡ text.old.items ++ insert_case_text case.now) }
 {
-    text.extend_from_slice(b"insert into \"cases\" (\"case\") values (")?;
+    text.extend_from_slice(INSERT_CASE)?;
     push_literal(text, case.as_bytes())?;
     text.extend_from_slice(b");\n")
 }
@@ -90,12 +94,7 @@ fn push_rows(alloc: Global, text: &mut Vec<u8>, rows: &[LogRow]) -> Result<(), A
 }
 
 #[tactic(auto, unfolding(crate::specs::Sql::row_values))]
-fn push_row(
-    alloc: Global,
-    text: &mut Vec<u8>,
-    lead: &[u8],
-    row: &LogRow,
-) -> Result<(), AllocError>
+fn push_row(alloc: Global, text: &mut Vec<u8>, lead: &[u8], row: &LogRow) -> Result<(), AllocError>
     ensures { OnOk result (text.new.items ≡ text.old.items ++ row_values lead.now (said row.now)) }
 {
     text.extend_from_slice(lead)?;

@@ -1,8 +1,7 @@
 ghost use Rattle.std.specs.Prelude.{◌≡◌, ◌++◌, codes, map, IfOk, OnOk};
 ghost use Rattle.std.specs.Fmt.{decimal};
-ghost use Rattle.std.specs.List.{flat_map};
 ghost use Rattle.flow_export.specs.Rows.{said};
-ghost use Rattle.flow_export.specs.Xes.{attribute_text, told_text, time_text, transition_of, true_false, standard_text, place_text, own_text, event_text, trace_text};
+ghost use Rattle.flow_export.specs.Xes.{attribute_text, told_text, time_text, transition_of, true_false, standard_text, place_text, own_text, event_text, events_text, trace_text};
 
 use crate::csv_form::kind_word;
 use crate::date_time::is_date_time;
@@ -65,7 +64,7 @@ fn push_trace(
 
 /// Adds the events of the rows, in order.
 fn push_events(alloc: Global, text: &mut Vec<u8>, rows: &[LogRow]) -> Result<(), AllocError>
-    ensures { OnOk result (text.new.items ≡ text.old.items ++ flat_map event_text (map said rows.now)) }
+    ensures { OnOk result (text.new.items ≡ text.old.items ++ events_text (map said rows.now)) }
 {
     for row in rows {
         push_event(alloc, text, row)?;
@@ -107,7 +106,12 @@ fn push_place(text: &mut Vec<u8>, row: &LogRow) -> Result<(), AllocError>
     ensures { OnOk result (text.new.items ≡ text.old.items ++ place_text (said row.now)) }
 {
     push_int(text, "flow:entry", row.entry)?;
-    push_attribute(text, "string", "flow:kind", kind_word(row.is_task).as_bytes())?;
+    push_attribute(
+        text,
+        "string",
+        "flow:kind",
+        kind_word(row.is_task).as_bytes(),
+    )?;
     push_int(text, "flow:leaf", u64::from(row.leaf))
 }
 
@@ -116,12 +120,23 @@ fn push_place(text: &mut Vec<u8>, row: &LogRow) -> Result<(), AllocError>
 fn push_own(text: &mut Vec<u8>, row: &LogRow) -> Result<(), AllocError>
     ensures { OnOk result (text.new.items ≡ text.old.items ++ own_text (said row.now)) }
 {
-    push_attribute(text, "string", "flow:lifecycle", row.lifecycle.word().as_bytes())?;
-    push_attribute(text, "boolean", "flow:counts", true_false(row.counts).as_bytes())?;
+    push_attribute(
+        text,
+        "string",
+        "flow:lifecycle",
+        row.lifecycle.word().as_bytes(),
+    )?;
+    push_attribute(
+        text,
+        "boolean",
+        "flow:counts",
+        true_false(row.counts).as_bytes(),
+    )?;
     push_told(text, "flow:note", row.note.as_bytes())
 }
 
 /// Adds when the entry was made.
+#[tactic(auto, unfolding(crate::specs::Xes::time_text))]
 fn push_time(text: &mut Vec<u8>, at: &[u8]) -> Result<(), AllocError>
     ensures { OnOk result (text.new.items ≡ text.old.items ++ time_text at.now) }
 {
@@ -133,6 +148,7 @@ fn push_time(text: &mut Vec<u8>, at: &[u8]) -> Result<(), AllocError>
 }
 
 /// Adds an attribute of a text, unless that is empty.
+#[tactic(auto, unfolding(crate::specs::Xes::told_text))]
 fn push_told(text: &mut Vec<u8>, key: &str, value: &[u8]) -> Result<(), AllocError>
     ensures { OnOk result (text.new.items ≡ text.old.items ++ told_text key.now value.now) }
 {

@@ -19,12 +19,7 @@ pub(crate) fn push_value(text: &mut Vec<u8>, value: &[u8]) -> Result<(), AllocEr
 }
 
 /// Adds a byte, by the two in front of it.
-fn push_value_byte(
-    text: &mut Vec<u8>,
-    first: u8,
-    second: u8,
-    byte: u8,
-) -> Result<(), AllocError>
+fn push_value_byte(text: &mut Vec<u8>, first: u8, second: u8, byte: u8) -> Result<(), AllocError>
     ensures { OnOk result (text.new.items ≡ text.old.items ++ value_byte first second byte) }
 {
     if ends_noncharacter(first, second, byte) {
