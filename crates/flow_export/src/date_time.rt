@@ -144,7 +144,13 @@ fn is_rest(text: &[u8]) -> bool
     ensures { result ≡ is_rest text.now }
 {
     match text {
-        [b'.', parts @ ..] => is_parts(parts),
-        _ => is_zone(text),
+        [] => false,
+        [byte, parts @ ..] => {
+            if *byte == b'.' {
+                is_parts(parts)
+            } else {
+                is_zone(text)
+            }
+        }
     }
 }

@@ -38,6 +38,29 @@ pub const XES_HEAD: &[u8] = b"<?xml version=\"1.0\" encoding=\"UTF-8\"?>
 /// What stands behind the traces of a log in XES.
 pub const XES_END: &[u8] = b"</log>\n";
 
+// The keys of the attributes: those of the extensions of the standard, and those that only a flow has.
+const NAME: &[u8] = b"concept:name";
+
+const RESOURCE: &[u8] = b"org:resource";
+
+const TIMESTAMP: &[u8] = b"time:timestamp";
+
+const TRANSITION: &[u8] = b"lifecycle:transition";
+
+const TIME: &[u8] = b"flow:time";
+
+const ENTRY: &[u8] = b"flow:entry";
+
+const KIND: &[u8] = b"flow:kind";
+
+const LEAF: &[u8] = b"flow:leaf";
+
+const HAPPENED: &[u8] = b"flow:lifecycle";
+
+const COUNTS: &[u8] = b"flow:counts";
+
+const NOTE: &[u8] = b"flow:note";
+
 /// The trace of a case in XES: its name, and an event for each row.
 pub fn xes_trace(alloc: Global, case: &str, rows: &[LogRow]) -> Result<Vec<u8>, AllocError>
     ensures { IfOk result (λ text. text.items ≡ trace_text case.now (map said rows.now)) }
@@ -57,7 +80,7 @@ fn push_trace(
     ensures { OnOk result (text.new.items ≡ text.old.items ++ trace_text case.now (map said rows.now)) }
 {
     text.extend_from_slice(b"<trace>\n")?;
-    push_attribute(text, "string", "concept:name", case.as_bytes())?;
+    push_attribute(text, "string", NAME, case.as_bytes())?;
     push_events(alloc, text, rows)?;
     text.extend_from_slice(b"</trace>\n")
 }
@@ -89,13 +112,13 @@ fn push_standard(alloc: Global, text: &mut Vec<u8>, row: &LogRow) -> Result<(), 
     ensures { OnOk result (text.new.items ≡ text.old.items ++ standard_text (said row.now)) }
 {
     let activity = String::from_utf8_lossy(alloc, &row.activity)?;
-    push_attribute(text, "string", "concept:name", activity.as_bytes())?;
-    push_told(text, "org:resource", row.by.as_bytes())?;
+    push_attribute(text, "string", NAME, activity.as_bytes())?;
+    push_told(text, RESOURCE, row.by.as_bytes())?;
     push_time(text, row.at.as_bytes())?;
     push_attribute(
         text,
         "string",
-        "lifecycle:transition",
+        TRANSITION,
         transition_of(row.lifecycle).as_bytes(),
     )
 }
@@ -105,14 +128,9 @@ fn push_standard(alloc: Global, text: &mut Vec<u8>, row: &LogRow) -> Result<(), 
 fn push_place(text: &mut Vec<u8>, row: &LogRow) -> Result<(), AllocError>
     ensures { OnOk result (text.new.items ≡ text.old.items ++ place_text (said row.now)) }
 {
-    push_int(text, "flow:entry", row.entry)?;
-    push_attribute(
-        text,
-        "string",
-        "flow:kind",
-        kind_word(row.is_task).as_bytes(),
-    )?;
-    push_int(text, "flow:leaf", u64::from(row.leaf))
+    push_int(text, ENTRY, row.entry)?;
+    push_attribute(text, "string", KIND, kind_word(row.is_task).as_bytes())?;
+    push_int(text, LEAF, u64::from(row.leaf))
 }
 
 /// Adds what happened in the words of a flow, whether it counts, and the note.
@@ -120,19 +138,9 @@ fn push_place(text: &mut Vec<u8>, row: &LogRow) -> Result<(), AllocError>
 fn push_own(text: &mut Vec<u8>, row: &LogRow) -> Result<(), AllocError>
     ensures { OnOk result (text.new.items ≡ text.old.items ++ own_text (said row.now)) }
 {
-    push_attribute(
-        text,
-        "string",
-        "flow:lifecycle",
-        row.lifecycle.word().as_bytes(),
-    )?;
-    push_attribute(
-        text,
-        "boolean",
-        "flow:counts",
-        true_false(row.counts).as_bytes(),
-    )?;
-    push_told(text, "flow:note", row.note.as_bytes())
+    push_attribute(text, "string", HAPPENED, row.lifecycle.word().as_bytes())?;
+    push_attribute(text, "boolean", COUNTS, true_false(row.counts).as_bytes())?;
+    push_told(text, NOTE, row.note.as_bytes())
 }
 
 /// Adds when the entry was made.
@@ -141,15 +149,15 @@ fn push_time(text: &mut Vec<u8>, at: &[u8]) -> Result<(), AllocError>
     ensures { OnOk result (text.new.items ≡ text.old.items ++ time_text at.now) }
 {
     if is_date_time(at) {
-        push_attribute(text, "date", "time:timestamp", at)
+        push_attribute(text, "date", TIMESTAMP, at)
     } else {
-        push_told(text, "flow:time", at)
+        push_told(text, TIME, at)
     }
 }
 
 /// Adds an attribute of a text, unless that is empty.
 #[tactic(auto, unfolding(crate::specs::Xes::told_text))]
-fn push_told(text: &mut Vec<u8>, key: &str, value: &[u8]) -> Result<(), AllocError>
+fn push_told(text: &mut Vec<u8>, key: &[u8], value: &[u8]) -> Result<(), AllocError>
     ensures { OnOk result (text.new.items ≡ text.old.items ++ told_text key.now value.now) }
 {
     match value {
@@ -158,7 +166,7 @@ fn push_told(text: &mut Vec<u8>, key: &str, value: &[u8]) -> Result<(), AllocErr
     }
 }
 
-fn push_int(text: &mut Vec<u8>, key: &str, number: u64) -> Result<(), AllocError>
+fn push_int(text: &mut Vec<u8>, key: &[u8], number: u64) -> Result<(), AllocError>
     ensures { OnOk result (text.new.items ≡ text.old.items ++ attribute_text (codes "int") key.now (decimal number)) }
 {
     let mut digits = Buffer::new();
@@ -170,7 +178,7 @@ fn push_int(text: &mut Vec<u8>, key: &str, number: u64) -> Result<(), AllocError
 fn push_attribute(
     text: &mut Vec<u8>,
     type_name: &str,
-    key: &str,
+    key: &[u8],
     value: &[u8],
 ) -> Result<(), AllocError>
     ensures { OnOk result (text.new.items ≡ text.old.items ++ attribute_text type_name.now key.now value.now) }
@@ -178,7 +186,7 @@ fn push_attribute(
     text.extend_from_slice(b"<")?;
     text.extend_from_slice(type_name.as_bytes())?;
     text.extend_from_slice(b" key=\"")?;
-    text.extend_from_slice(key.as_bytes())?;
+    text.extend_from_slice(key)?;
     text.extend_from_slice(b"\" value=\"")?;
     push_value(text, value)?;
     text.extend_from_slice(b"\"/>\n")
