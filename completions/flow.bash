@@ -93,7 +93,7 @@ _flowdesk() {
     elif [[ $word == -* && ${COMP_WORDS[1]} == list ]]; then
         mapfile -t COMPREPLY < <(compgen -W "$(_flow_unused --for --state --older --workflow --jobs --json)" -- "$word")
     elif [[ $word == -* && ${COMP_WORDS[1]} == export ]]; then
-        mapfile -t COMPREPLY < <(compgen -W "$(_flow_unused --form --rows)" -- "$word")
+        mapfile -t COMPREPLY < <(compgen -W "$(_flow_unused --form --rows --jobs)" -- "$word")
     elif [[ $word == -* && ${COMP_WORDS[1]} == page ]]; then
         mapfile -t COMPREPLY < <(compgen -W "$(_flow_unused --at --wait)" -- "$word")
     elif [[ $word == -* && ${COMP_WORDS[1]} == new ]]; then
