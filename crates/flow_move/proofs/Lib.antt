@@ -1,1 +1,3 @@
 pub mod LabelLemmas
+pub mod StepLemmas
+pub mod MoveLemmas

@@ -26,8 +26,8 @@ fn make_on_least(run: &mut CaseRun, labels: &[Name], label: &Name, by: u32, step
 {
     for (leaf, other) in labels.iter().enumerate() {
         if is_same(other, label) {
-            let step = on_leaf(step, leaf as u32);
-            if run.make(Entry { by, step }) {
+            let next = on_leaf(step, leaf as u32);
+            if run.make(Entry { by, step: next }) {
                 return true;
             }
         }
