@@ -39,8 +39,8 @@ pub record IsFoundOn (names : NewNames) (c : CaseRun) (old : Entry) (by : ℕ) (
 
 found_on : (names : NewNames) (c : CaseRun) (old : Entry) (by : ℕ) (label : List ℕ) (new : Entry) → IsSought names c old by label →
     MayMove names c old new → IsFoundOn names c old by label new
-found_on names c old by label new s ((caller, as), can) =
-    let on = as_on names (definition_of c) old.step label new.step s.leaf s.label as in record {
+found_on names c old by label new s ((caller, by_names), can) =
+    let on = as_on names (definition_of c) old.step label new.step s.leaf s.label by_names in record {
       on = on.leaf;
       may = (on.there, subst (CanMakeInCase c) (entry_is new by (on_leaf old.step on.leaf) (one_caller names old.by by new.by s.caller caller) on.is) can);
       is = on.is;
@@ -50,12 +50,12 @@ found_on names c old by label new s ((caller, as), can) =
 pub moves_on : (names : NewNames) (c : CaseRun) (old : Entry) (by : ℕ) (label : List ℕ) (leaf : ℕ) → IsSought names c old by label →
     IsLeast (MayOn c (labels_in (definition_of c)) label by old.step) leaf → Moves names c old (record { by = by; step = on_leaf old.step leaf })
 moves_on names c old by label leaf s ((there, can), least) = (
-      ((s.caller, step_on names (definition_of c) old.step label leaf s.leaf s.label there), can),
-      λ other may.
-          let found = found_on names c old by label other s may in
-          let is : leaf_in other.step ≡ found.on = ap leaf_in found.is ∙ leaf_on old.step found.on s.leaf in
-          subst (λ n. n ≤ leaf_in other.step) (sym (leaf_on old.step leaf s.leaf)) (subst (λ n. leaf ≤ n) (sym is) (least found.on found.may)),
-    )
+  ((s.caller, step_on names (definition_of c) old.step label leaf s.leaf s.label there), can),
+  λ other may.
+      let found = found_on names c old by label other s may in
+      let is : leaf_in other.step ≡ found.on = ap leaf_in found.is ∙ leaf_on old.step found.on s.leaf in
+      subst (λ n. n ≤ leaf_in other.step) (sym (leaf_on old.step leaf s.leaf)) (subst (λ n. leaf ≤ n) (sym is) (least found.on found.may)),
+)
 
 -- where it may come on none, it has no place
 none_on : (names : NewNames) (c : CaseRun) (old : Entry) (by : ℕ) (label : List ℕ) → IsSought names c old by label →
@@ -65,22 +65,22 @@ none_on names c old by label s none new may = let found = found_on names c old b
 cause_is : (names : NewNames) (c : CaseRun) (old : Entry) (by : ℕ) (label : List ℕ) (cause : Cause) → IsSought names c old by label →
     IsCauseOn (run_of c) (labels_in (definition_of c)) label old.step (length (labels_in (definition_of c))) cause → IsCause names c old cause
 cause_is names c old by label NoName s none = (
-      (by, s.caller),
-      λ step as.
-          let on = as_on names (definition_of c) old.step label step s.leaf s.label as in
-          none on.leaf (slice_get_within (labels_in (definition_of c)) on.leaf label on.there) on.there,
-    )
+  (by, s.caller),
+  λ step by_names.
+      let on = as_on names (definition_of c) old.step label step s.leaf s.label by_names in
+      none on.leaf (slice_get_within (labels_in (definition_of c)) on.leaf label on.there) on.there,
+)
 cause_is names c old by label NotNow s ((leaf, there), none) = (
-      (by, s.caller),
-      (on_leaf old.step leaf, step_on names (definition_of c) old.step label leaf s.leaf s.label there),
-      λ step (as, lets).
-          let on = as_on names (definition_of c) old.step label step s.leaf s.label as in
-          none on.leaf (slice_get_within (labels_in (definition_of c)) on.leaf label on.there) on.there (subst (IsLetByRun (run_of c)) on.is lets),
-    )
+  (by, s.caller),
+  (on_leaf old.step leaf, step_on names (definition_of c) old.step label leaf s.leaf s.label there),
+  λ step (by_names, lets).
+      let on = as_on names (definition_of c) old.step label step s.leaf s.label by_names in
+      none on.leaf (slice_get_within (labels_in (definition_of c)) on.leaf label on.there) on.there (subst (IsLetByRun (run_of c)) on.is lets),
+)
 cause_is names c old by label Forbidden s (leaf, there, lets) = (
-      (by, s.caller),
-      (on_leaf old.step leaf, (step_on names (definition_of c) old.step label leaf s.leaf s.label there, lets)),
-    )
+  (by, s.caller),
+  (on_leaf old.step leaf, (step_on names (definition_of c) old.step label leaf s.leaf s.label there, lets)),
+)
 
 pub unmoved_on : (names : NewNames) (c : CaseRun) (old : Entry) (by : ℕ) (label : List ℕ) (cause : Cause) → IsSought names c old by label →
     ((leaf : ℕ) → ¬ (MayOn c (labels_in (definition_of c)) label by old.step leaf)) →
@@ -95,19 +95,19 @@ unmoved_on names c old by label cause s none on = record {
 pub moves_plain : (names : NewNames) (c : CaseRun) (old : Entry) (by : ℕ) → IsCaller names old.by by → ¬ (HasLeaf old.step) →
     CanMakeInCase c (record { by = by; step = old.step }) → Moves names c old (record { by = by; step = old.step })
 moves_plain names c old by caller plain can = (
-      ((caller, as_plain names (definition_of c) old.step plain), can),
-      λ other may.
-          let is : other.step ≡ old.step = plain_as names (definition_of c) old.step other.step plain may.0.1 in
-          subst (λ n. leaf_in old.step ≤ n) (ap leaf_in (sym is)) (omega arith),
-    )
+  ((caller, as_plain names (definition_of c) old.step plain), can),
+  λ other may.
+      let is : other.step ≡ old.step = plain_as names (definition_of c) old.step other.step plain may.0.1 in
+      subst (λ n. leaf_in old.step ≤ n) (ap leaf_in (sym is)) (omega arith),
+)
 
 plain_cause : (names : NewNames) (c : CaseRun) (old : Entry) (by : ℕ) (cause : Cause) → IsCaller names old.by by → ¬ (HasLeaf old.step) →
     IsCauseOf (run_of c) old.step cause → IsCause names c old cause
 plain_cause names c old by NotNow caller plain none = (
-      (by, caller),
-      (old.step, as_plain names (definition_of c) old.step plain),
-      λ step (as, lets). none (subst (IsLetByRun (run_of c)) (plain_as names (definition_of c) old.step step plain as) lets),
-    )
+  (by, caller),
+  (old.step, as_plain names (definition_of c) old.step plain),
+  λ step (by_names, lets). none (subst (IsLetByRun (run_of c)) (plain_as names (definition_of c) old.step step plain by_names) lets),
+)
 plain_cause names c old by Forbidden caller plain lets = ((by, caller), (old.step, (as_plain names (definition_of c) old.step plain, lets)))
 
 pub unmoved_plain : (names : NewNames) (c : CaseRun) (old : Entry) (by : ℕ) (cause : Cause) → IsCaller names old.by by → ¬ (HasLeaf old.step) →
@@ -135,17 +135,17 @@ same_definition (UnderPolicy c) entries = refl
 pub moved_more : (names : NewNames) (c : CaseRun) (olds : List Entry) (old : Entry) (made : List Entry) (new : Entry) → AreMoved names c olds made →
     Moves names (case_with c made) old new → AreMoved names c (olds ++ old ∷ []) (made ++ new ∷ [])
 moved_more names c [] old made new none moves = (
-      new,
-      [],
-      ap (λ l. l ++ new ∷ []) none,
-      subst (λ (d : CaseRun). Moves names d old new) (ap (case_with c) none ∙ sym (with_none c)) moves,
-      refl,
-    )
+  new,
+  [],
+  ap (λ l. l ++ new ∷ []) none,
+  subst (λ (d : CaseRun). Moves names d old new) (ap (case_with c) none ∙ sym (with_none c)) moves,
+  refl,
+)
 moved_more names c (x ∷ olds) old made new (first, rest, is, first_moves, more) moves = (
-      first,
-      rest ++ new ∷ [],
-      ap (λ l. l ++ new ∷ []) is,
-      first_moves,
-      moved_more names (case_with c (first ∷ [])) olds old rest new more
+  first,
+  rest ++ new ∷ [],
+  ap (λ l. l ++ new ∷ []) is,
+  first_moves,
+  moved_more names (case_with c (first ∷ [])) olds old rest new more
       (subst (λ (d : CaseRun). Moves names d old new) (ap (case_with c) is ∙ sym (with_both c (first ∷ []) rest)) moves),
-    )
+)

@@ -40,13 +40,13 @@ leaf_on (Did old) leaf has = refl
 
 -- a step that has no leaf is itself by names
 pub plain_as : (names : NewNames) (w : Definition) (step other : Step) → ¬ (HasLeaf step) → IsStepAs names w step other → other ≡ step
-plain_as names w (Took claim leaf) other plain as = absurd (plain tt)
-plain_as names w (Did leaf) other plain as = absurd (plain tt)
-plain_as names w (Done claim) other plain as = as
-plain_as names w (Failed claim effect) other plain as = as
-plain_as names w (Late claim) other plain as = as
-plain_as names w (Rewound index) other plain as = as
-plain_as names w Committed other plain as = as
+plain_as names w (Took claim leaf) other plain by_names = absurd (plain tt)
+plain_as names w (Did leaf) other plain by_names = absurd (plain tt)
+plain_as names w (Done claim) other plain by_names = by_names
+plain_as names w (Failed claim effect) other plain by_names = by_names
+plain_as names w (Late claim) other plain by_names = by_names
+plain_as names w (Rewound index) other plain by_names = by_names
+plain_as names w Committed other plain by_names = by_names
 
 pub as_plain : (names : NewNames) (w : Definition) (step : Step) → ¬ (HasLeaf step) → IsStepAs names w step step
 as_plain names w (Took claim leaf) plain = absurd (plain tt)
