@@ -32,7 +32,7 @@ use flow_core::Core;
 use flow_disk::Disk;
 use flow_names::{steps_to_take, tidy_steps, waits_for_step};
 use flow_policy::Policy;
-use flow_trail::{TrailLine, VerifyRefusal};
+use flow_trail::{About, TrailLine, VerifyRefusal};
 use std::alloc::{AllocError, Global};
 
 /// A case with its texts, and its users by name.
@@ -246,7 +246,9 @@ impl<D: Disk, T: Disk> Book for CaseBook<D, T> {
     fn is_ticked_off(&self, done: usize) -> bool {
         let number = (done as u64).saturating_add(1);
         self.case.trail().lines().iter().any(|line| match line {
-            TrailLine::Undone(undoing) => u64::from(undoing.entry) == number,
+            TrailLine::Remark(remark) => {
+                remark.about == About::Undone && u64::from(remark.entry) == number
+            }
             _ => false,
         })
     }

@@ -9,7 +9,7 @@ use crate::asker::Asker;
 use crate::case::Case;
 use flow_ask::Refusal;
 use flow_disk::Disk;
-use flow_trail::{TrailLine, Undoing};
+use flow_trail::{About, Remark, TrailLine};
 use std::alloc::{AllocError, Global};
 
 /// The line that ticks the task off, by the number of the entry by which it was done.
@@ -21,8 +21,9 @@ fn tick_line(
 ) -> Result<TrailLine, AllocError>
     ensures { IfOk result (λ line. said_of line ≡ undone task.now entry asker.entry.name.now asker.entry.at.now) }
 {
-    Ok(TrailLine::Undone(Undoing {
-        task: String::from_str(alloc, task)?,
+    Ok(TrailLine::Remark(Remark {
+        about: About::Undone,
+        text: String::from_str(alloc, task)?,
         entry,
         by: String::from_str(alloc, asker.name)?,
         at: String::from_str(alloc, asker.at)?,
