@@ -1,3 +1,4 @@
 pub mod LabelLemmas
 pub mod StepLemmas
 pub mod MoveLemmas
+pub mod RunLemmas

@@ -87,7 +87,7 @@ pub unmoved_on : (names : NewNames) (c : CaseRun) (old : Entry) (by : ℕ) (labe
     IsCauseOn (run_of c) (labels_in (definition_of c)) label old.step (length (labels_in (definition_of c))) cause → IsUnmoved names c old cause
 unmoved_on names c old by label cause s none on = record {
   none = none_on names c old by label s none;
-  cause = cause_is names c old by label cause s on;
+  why = cause_is names c old by label cause s on;
 }
 
 -- ---- a step that has no leaf
@@ -115,7 +115,7 @@ pub unmoved_plain : (names : NewNames) (c : CaseRun) (old : Entry) (by : ℕ) (c
 unmoved_plain names c old by cause caller plain cannot why = record {
   none = λ new may. cannot (subst (CanMakeInCase c)
       (entry_is new by old.step (one_caller names old.by by new.by caller may.0.0) (plain_as names (definition_of c) old.step new.step plain may.0.1)) may.1);
-  cause = plain_cause names c old by cause caller plain why;
+  why = plain_cause names c old by cause caller plain why;
 }
 
 -- ---- entries, one after another

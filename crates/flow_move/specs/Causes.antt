@@ -34,7 +34,7 @@ IsCause names c old Forbidden = ((by : ℕ) × IsCaller names old.by by) × ((st
 -- no such entry may come next, and that is why
 pub record IsUnmoved (names : NewNames) (c : CaseRun) (old : Entry) (cause : Cause) : Type 0 where
   pub none : (new : Entry) → ¬ (MayMove names c old new)
-  pub cause : IsCause names c old cause
+  pub why : IsCause names c old cause
 
 -- The entries in front of the place are made, and that at the place is the first that has none; the case is this afterwards.
 pub record StopsAt (names : NewNames) (c : CaseRun) (history : List Entry) (place : ℕ) (cause : Cause) (after : CaseRun) : Type 0 where
