@@ -8,6 +8,7 @@ use flow_move::{NewNames, Rename, new_labels};
 use std::alloc::{AllocError, Global};
 
 /// The renames of the words, or the first word that is none.
+#[derive(Drop)]
 pub(crate) enum Renames<'a> {
     Read(Vec<Rename>),
     Bad(&'a str),
@@ -25,10 +26,7 @@ fn rename_in(alloc: Global, word: &str) -> Result<Option<Rename>, AllocError> {
 }
 
 /// The renames of the words.
-pub(crate) fn renames_in<'a>(
-    alloc: Global,
-    words: &[&'a str],
-) -> Result<Renames<'a>, AllocError> {
+pub(crate) fn renames_in<'a>(alloc: Global, words: &[&'a str]) -> Result<Renames<'a>, AllocError> {
     let mut renames = Vec::new(alloc);
     for word in words {
         match rename_in(alloc, *word)? {

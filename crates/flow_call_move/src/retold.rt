@@ -29,8 +29,14 @@ fn is_same_step(one: Step, other: Step) -> bool {
         (Step::Done { claim: a }, Step::Done { claim: b })
         | (Step::Late { claim: a }, Step::Late { claim: b }) => a == b,
         (
-            Step::Failed { claim: a, effect: x },
-            Step::Failed { claim: b, effect: y },
+            Step::Failed {
+                claim: a,
+                effect: x,
+            },
+            Step::Failed {
+                claim: b,
+                effect: y,
+            },
         ) => a == b && is_same_effect(x, y),
         (Step::Did { leaf: x }, Step::Did { leaf: y }) => x == y,
         (Step::Rewound { index: i }, Step::Rewound { index: k }) => i == k,

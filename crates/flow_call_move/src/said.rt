@@ -139,10 +139,7 @@ fn refused_object(
 }
 
 /// Writes a refusal, and gives the status.
-fn write_refusal(
-    rt: &(impl Print + Eprint),
-    text: Result<Vec<u8>, AllocError>,
-) -> u8 {
+fn write_refusal(rt: &(impl Print + Eprint), text: Result<Vec<u8>, AllocError>) -> u8 {
     match text {
         Ok(text) => match write_out(rt, &text) {
             0 => REFUSED,
@@ -162,7 +159,10 @@ pub(crate) fn say_unmoved<B: Book>(
 ) -> u8 {
     match unmoved_words(rt.alloc(), book, place, cause) {
         Ok(words) if json => {
-            write_refusal(rt, refused_object(rt.alloc(), cause_word(cause), Some(place), &words))
+            write_refusal(
+                rt,
+                refused_object(rt.alloc(), cause_word(cause), Some(place), &words),
+            )
         }
         other => write_refusal(rt, other),
     }
@@ -170,7 +170,8 @@ pub(crate) fn say_unmoved<B: Book>(
 
 /// Says that the texts are the same, and gives the status.
 pub(crate) fn say_same(rt: &(impl AllocGlobal + Print + Eprint), json: bool) -> u8 {
-    let words = "refused: the case has the same workflow and policy. Nothing is changed\n".as_bytes();
+    let words =
+        "refused: the case has the same workflow and policy. Nothing is changed\n".as_bytes();
     if json {
         return write_refusal(rt, refused_object(rt.alloc(), "same", None, words));
     }

@@ -1,6 +1,6 @@
 -- The labels of a text's leaves, one after another.
-use Rattle.std.proofs.Common.{◌≡◌, ◌<◌, ◌≤◌, ◌+◌, ℕ, List, [], ◌∷◌, ◌++◌, length, take, map, get_or, sym, ap, ◌∙◌}
-use Rattle.std.proofs.lemmas.List.{map_more, take_all}
+use Rattle.std.proofs.Common.{◌≡◌, ◌<◌, ◌≤◌, ◌+◌, ℕ, List, [], ◌∷◌, ◌++◌, length, take, map, get_or, refl, sym, ap, subst, ◌∙◌, ◌^◌, arith}
+use Rattle.std.proofs.lemmas.List.{map_more, take_all, length-map}
 use Rattle.std.proofs.lemmas.Option.{slice_get-get_or}
 use Rattle.flow_model.specs.declared.labels.Label.{Label}
 use Rattle.flow_model.specs.declared.labels.Label.TheVariants.{Event}
@@ -20,4 +20,9 @@ labels_more w labels leaf within so_far =
 
 pub labels_all : (w : Definition) (labels : List (List ℕ)) (leaf : ℕ) → length w.tree.labels ≤ leaf →
     labels ≡ map (label_text w) (take leaf w.tree.labels) → labels ≡ labels_in w
-labels_all w labels leaf past so_far = so_far ∙ ap (map (label_text w)) (take_all w.tree.labels leaf past)
+labels_all w labels leaf past so_far = so_far ∙ ap (map (label_text w)) (take_all leaf w.tree.labels past)
+
+pub labels_few : (w : Definition) (labels : List (List ℕ)) (count : ℕ) → labels ≡ labels_in w → count ≡ length w.tree.labels → count < 2 ^ 32 →
+    length labels < 2 ^ 32
+labels_few w labels count is counted few =
+    subst (λ n. n < 2 ^ 32) (counted ∙ sym (length-map (label_text w) w.tree.labels) ∙ sym (ap length is)) few

@@ -2,3 +2,4 @@ pub mod LabelLemmas
 pub mod StepLemmas
 pub mod MoveLemmas
 pub mod RunLemmas
+pub mod RenameLemmas

@@ -1,5 +1,5 @@
 -- Steps by names: a step on a leaf, and one that has none.
-use Rattle.std.proofs.Common.{◌≡◌, ◌≤◌, ◌<◌, ℕ, List, Some, length, slice_get, refl, sym, ap, subst, ◌∙◌, absurd}
+use Rattle.std.proofs.Common.{◌≡◌, ◌≤◌, ◌<◌, ℕ, List, Some, length, slice_get, refl, sym, ap, subst, ◌∙◌}
 use Rattle.std.proofs.lemmas.Option.{same_Some, slice_get_within}
 use Rattle.flow_model.specs.declared.history.Step.{Step}
 use Rattle.flow_model.specs.declared.history.Step.TheVariants.{Took, Done, Failed, Late, Did, Rewound, Committed}
@@ -14,6 +14,11 @@ pub step_on : (names : NewNames) (w : Definition) (step : Step) (label : List �
     slice_get names.labels.items (leaf_in step) ≡ Some label → slice_get (labels_in w) leaf ≡ Some label → IsStepAs names w step (on_leaf step leaf)
 step_on names w (Took claim old) label leaf has named there = (leaf, (label, named, there), refl)
 step_on names w (Did old) label leaf has named there = (leaf, (label, named, there), refl)
+step_on names w (Done claim) label leaf has named there = elim has [ ]
+step_on names w (Failed claim effect) label leaf has named there = elim has [ ]
+step_on names w (Late claim) label leaf has named there = elim has [ ]
+step_on names w (Rewound index) label leaf has named there = elim has [ ]
+step_on names w Committed label leaf has named there = elim has [ ]
 
 pub record IsOnSome (w : Definition) (step : Step) (label : List ℕ) (other : Step) : Type 0 where
   pub leaf : ℕ
@@ -33,10 +38,20 @@ pub as_on : (names : NewNames) (w : Definition) (step : Step) (label : List ℕ)
     slice_get names.labels.items (leaf_in step) ≡ Some label → IsStepAs names w step other → IsOnSome w step label other
 as_on names w (Took claim old) label other has named (leaf, on, is) = on_some names w (Took claim old) old label leaf other named on is
 as_on names w (Did old) label other has named (leaf, on, is) = on_some names w (Did old) old label leaf other named on is
+as_on names w (Done claim) label other has named by_names = elim has [ ]
+as_on names w (Failed claim effect) label other has named by_names = elim has [ ]
+as_on names w (Late claim) label other has named by_names = elim has [ ]
+as_on names w (Rewound index) label other has named by_names = elim has [ ]
+as_on names w Committed label other has named by_names = elim has [ ]
 
 pub leaf_on : (step : Step) (leaf : ℕ) → HasLeaf step → leaf_in (on_leaf step leaf) ≡ leaf
 leaf_on (Took claim old) leaf has = refl
 leaf_on (Did old) leaf has = refl
+leaf_on (Done claim) leaf has = elim has [ ]
+leaf_on (Failed claim effect) leaf has = elim has [ ]
+leaf_on (Late claim) leaf has = elim has [ ]
+leaf_on (Rewound index) leaf has = elim has [ ]
+leaf_on Committed leaf has = elim has [ ]
 
 -- a step that has no leaf is itself by names
 pub plain_as : (names : NewNames) (w : Definition) (step other : Step) → ¬ (HasLeaf step) → IsStepAs names w step other → other ≡ step

@@ -1,4 +1,4 @@
-ghost use Rattle.std.specs.Prelude.{◌≡◌, IfOk};
+ghost use Rattle.std.specs.Prelude.{◌≡◌, ◌<◌, ◌^◌, length, IfOk};
 ghost use Rattle.flow_workflow.specs.Label.{leaf_text};
 ghost use Rattle.flow_move.specs.Labels.{labels_in};
 
@@ -8,9 +8,10 @@ use flow_workflow::Workflow;
 use std::alloc::{AllocError, Global};
 
 /// The labels of the workflow's leaves, by their numbers.
-#[tactic(auto, using(crate::proofs::LabelLemmas::labels_more, crate::proofs::LabelLemmas::labels_all))]
+#[tactic(auto, using(crate::proofs::LabelLemmas::labels_more, crate::proofs::LabelLemmas::labels_all, crate::proofs::LabelLemmas::labels_few))]
 pub(crate) fn labels_of(alloc: Global, workflow: &Workflow) -> Result<Vec<Name>, AllocError>
-    ensures { IfOk result (λ labels. labels.items ≡ labels_in workflow.now) }
+    ensures all { IfOk result (λ labels. labels.items ≡ labels_in workflow.now) }
+    ensures few { IfOk result (λ labels. length labels.items < 2 ^ 32) }
 {
     let mut labels = Vec::new(alloc);
     for leaf in 0..workflow.tree().leaves() {
