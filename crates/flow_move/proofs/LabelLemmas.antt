@@ -25,4 +25,4 @@ labels_all w labels leaf past so_far = so_far ∙ ap (map (label_text w)) (take_
 pub labels_few : (w : Definition) (labels : List (List ℕ)) (count : ℕ) → labels ≡ labels_in w → count ≡ length w.tree.labels → count < 2 ^ 32 →
     length labels < 2 ^ 32
 labels_few w labels count is counted few =
-    subst (λ n. n < 2 ^ 32) (counted ∙ sym (length-map (label_text w) w.tree.labels) ∙ sym (ap length is)) few
+    subst (λ n. n < 2 ^ 32) (counted ∙ sym (length-map w.tree.labels (label_text w)) ∙ sym (ap length is)) few
