@@ -42,6 +42,7 @@ impl NewTexts {
 }
 
 /// What is asked for.
+#[derive(Clone, Copy)]
 struct Call<'a> {
     case: &'a str,
     workflow: Option<&'a str>,
