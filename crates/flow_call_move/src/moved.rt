@@ -2,7 +2,7 @@
 
 use crate::plan::{Renames, new_names, renames_in};
 use crate::retold::retell;
-use crate::said::{say_moved, say_same, say_unmoved};
+use crate::said::{There, say_moved, say_same, say_unmoved};
 use clap::ArgMatches;
 use flow_call::{DISK, NO_MEMORY, WORDS, read_file, say_unread};
 use flow_call_cases::{
@@ -15,8 +15,7 @@ use flow_case_files::{
     GREATEST_TEXT, finish_move, is_cut_off, make_moving, put_in_place, take_away,
 };
 use flow_case_talk::Book;
-use flow_model::Entry;
-use flow_move::{Cause, Rename, Unmoved, make_again};
+use flow_move::{Cause, NewNames, Rename, Unmoved, make_again};
 use std::alloc::{AllocError, Global};
 use std::fs::File;
 use std::rt::{Env, Files};
@@ -149,10 +148,10 @@ fn tell_all<'x, R: Files<File = File> + AllocGlobal + Print + Eprint>(
     call: &Call<'_>,
     old: &FileCase<'x, R>,
     new: &mut FileCase<'x, R>,
-    entries: &[Entry],
+    moved: There<'_>,
 ) -> u8 {
-    if let Err(place) = retell(old, new, entries) {
-        return say_unmoved(rt, old, place, Cause::Forbidden, call.json);
+    if let Err(place) = retell(old, new, moved.core.history()) {
+        return say_unmoved(rt, old, moved, place, Cause::Forbidden, call.json);
     }
     let Ok(seal) = old.seal(rt.alloc()) else {
         return NO_MEMORY;
@@ -177,11 +176,11 @@ fn fill<'x, R: Files<File = File> + Clock + AllocGlobal + Print + Eprint>(
     call: &Call<'_>,
     old: &FileCase<'x, R>,
     moving: &str,
-    entries: &[Entry],
+    moved: There<'_>,
 ) -> u8 {
     match opened(rt, moving, Duration::from_secs(0), "") {
         Ok(mut new) => {
-            let status = tell_all(rt, call, old, &mut new, entries);
+            let status = tell_all(rt, call, old, &mut new, moved);
             drop(new);
             status
         }
@@ -189,31 +188,56 @@ fn fill<'x, R: Files<File = File> + Clock + AllocGlobal + Print + Eprint>(
     }
 }
 
-/// Moves the case, whose entries are these under the new texts, and gives the status.
+/// Moves the case, which has all entries under the new texts, and gives the status.
 fn move_made<'x, R: Files<File = File> + Clock + AllocGlobal + Print + Eprint>(
     rt: &'x R,
     call: &Call<'_>,
     old: &FileCase<'x, R>,
     texts: &NewTexts,
-    entries: &[Entry],
+    moved: There<'_>,
 ) -> u8 {
     let lent = texts.lent();
     let moving = match make_moving(rt, call.case, lent.workflow, lent.policy, old.is_tidied()) {
         Ok(moving) => moving,
         Err(fault) => return say_folder(rt, call.case, fault),
     };
-    let status = fill(rt, call, old, &moving, entries);
+    let status = fill(rt, call, old, &moving, moved);
     if status != 0 {
         let _ = take_away(rt, &moving);
         return status;
     }
     match put_in_place(rt, call.case) {
-        Ok(()) => say_moved(rt, call.case, entries.len(), call.json),
+        Ok(()) => say_moved(rt, call.case, moved.core.history().len(), call.json),
         Err(fault) => say_folder(rt, call.case, fault),
     }
 }
 
-/// Makes the entries of the case again under the new texts, and moves it, or says why not.
+/// Makes the entries of the case again by these names, and moves it, or says why not.
+fn move_named<'x, R: Files<File = File> + Clock + AllocGlobal + Print + Eprint>(
+    rt: &'x R,
+    call: &Call<'_>,
+    old: &FileCase<'x, R>,
+    texts: &NewTexts,
+    names: &NewNames,
+    run: CaseRun,
+) -> u8 {
+    let mut run = run;
+    let made = make_again(rt.alloc(), names, old.core().history(), &mut run);
+    let there = There {
+        alloc: rt.alloc(),
+        core: run.core(),
+        names,
+    };
+    match made {
+        Ok(()) => move_made(rt, call, old, texts, there),
+        Err(Unmoved::Entry { place, cause }) => {
+            say_unmoved(rt, old, there, place, cause, call.json)
+        }
+        Err(Unmoved::NoMemory) => NO_MEMORY,
+    }
+}
+
+/// Moves the case to that one, which has no entry yet, or says why not.
 fn move_begun<'x, R: Files<File = File> + Clock + AllocGlobal + Print + Eprint>(
     rt: &'x R,
     call: &Call<'_>,
@@ -225,15 +249,12 @@ fn move_begun<'x, R: Files<File = File> + Clock + AllocGlobal + Print + Eprint>(
     drop(script);
     let names = new_names(rt.alloc(), old, users.as_ref(), call.renames);
     drop(users);
-    let mut run = run;
-    let made = match names {
-        Ok(names) => make_again(rt.alloc(), &names, old.core().history(), &mut run),
-        Err(AllocError) => Err(Unmoved::NoMemory),
-    };
-    match made {
-        Ok(()) => move_made(rt, call, old, texts, run.core().history()),
-        Err(Unmoved::Entry { place, cause }) => say_unmoved(rt, old, place, cause, call.json),
-        Err(Unmoved::NoMemory) => NO_MEMORY,
+    match names {
+        Ok(names) => move_named(rt, call, old, texts, &names, run),
+        Err(AllocError) => {
+            drop(run);
+            NO_MEMORY
+        }
     }
 }
 

@@ -3,8 +3,11 @@
 use flow_call::{NO_MEMORY, REFUSED, write_out};
 use flow_case_talk::Book;
 use flow_core::Core;
+use flow_facts::Name;
 use flow_model::{Entry, Step};
-use flow_move::Cause;
+use flow_move::{Cause, NewNames};
+use flow_reason::{Reason, why_leaf};
+use flow_record::print_label;
 use flow_workflow::push_leaf_label;
 use flow_writer::Writer;
 use std::alloc::{AllocError, Global};
@@ -73,10 +76,56 @@ fn cause_word(cause: Cause) -> &'static str {
     }
 }
 
+/// The new case, as far as its entries are made.
+#[derive(Clone, Copy)]
+pub(crate) struct There<'a> {
+    pub(crate) alloc: Global,
+    pub(crate) core: &'a Core,
+    pub(crate) names: &'a NewNames,
+}
+
+/// The least leaf of the new text that has the label.
+fn leaf_labelled(there: There<'_>, label: &Name) -> Result<Option<u32>, AllocError> {
+    let workflow = there.core.workflow();
+    for leaf in 0..workflow.tree().leaves() {
+        let text = print_label(there.alloc, workflow, leaf)?;
+        if text.as_slice() == label.bytes() {
+            return Ok(Some(leaf));
+        }
+    }
+    Ok(None)
+}
+
+/// The leaf of the new text that the step of the old one is on.
+fn leaf_there(there: There<'_>, step: Step) -> Result<Option<u32>, AllocError> {
+    match step {
+        Step::Took { leaf, claim: _ } | Step::Did { leaf } => {
+            match there.names.labels.get(leaf as usize) {
+                Some(label) => leaf_labelled(there, label),
+                None => Ok(None),
+            }
+        }
+        _ => Ok(None),
+    }
+}
+
+/// Adds why the step may not come next in the new case.
+fn push_reason(page: &mut Writer, there: There<'_>, step: Step) -> Result<(), AllocError> {
+    let Some(leaf) = leaf_there(there, step)? else {
+        return page.words("it may not come next there");
+    };
+    match why_leaf(there.alloc, there.core, leaf)? {
+        Reason::Done { .. } => page.words("it is done there already"),
+        Reason::Out { .. } => page.words("it is out there already"),
+        reason => reason.print(&mut page.text, there.core.workflow(), leaf),
+    }
+}
+
 /// Adds why the entry has no place.
 fn push_cause<B: Book>(
     page: &mut Writer,
     book: &B,
+    there: There<'_>,
     entry: Entry,
     cause: Cause,
 ) -> Result<(), AllocError> {
@@ -90,7 +139,7 @@ fn push_cause<B: Book>(
             push_label(page, book.core(), entry.step)?;
             page.words(": --rename OLD=NEW tells its new name")
         }
-        Cause::NotNow => page.words("it may not come next there"),
+        Cause::NotNow => push_reason(page, there, entry.step),
         Cause::Forbidden => {
             page.words("the policy forbids it to ")?;
             page.words(book.user_name(entry.by))
@@ -100,19 +149,19 @@ fn push_cause<B: Book>(
 
 /// Why the case is not moved, in words.
 fn unmoved_words<B: Book>(
-    alloc: Global,
     book: &B,
+    there: There<'_>,
     place: usize,
     cause: Cause,
 ) -> Result<Vec<u8>, AllocError> {
-    let mut page = Writer::new(alloc);
+    let mut page = Writer::new(there.alloc);
     page.words("refused: entry ")?;
     page.ordinal(place)?;
     if let Some(entry) = book.core().history().get(place) {
         page.words(" (")?;
         push_entry(&mut page, book, *entry)?;
         page.words(") is not legal under the new texts: ")?;
-        push_cause(&mut page, book, *entry, cause)?;
+        push_cause(&mut page, book, there, *entry, cause)?;
     }
     page.words(". Nothing is changed\n")?;
     Ok(page.text)
@@ -153,11 +202,12 @@ fn write_refusal(rt: &(impl Print + Eprint), text: Result<Vec<u8>, AllocError>) 
 pub(crate) fn say_unmoved<B: Book>(
     rt: &(impl AllocGlobal + Print + Eprint),
     book: &B,
+    there: There<'_>,
     place: usize,
     cause: Cause,
     json: bool,
 ) -> u8 {
-    match unmoved_words(rt.alloc(), book, place, cause) {
+    match unmoved_words(book, there, place, cause) {
         Ok(words) if json => {
             write_refusal(
                 rt,
