@@ -31,7 +31,7 @@ entry_is new by step e f k = record { by = e k; step = f k }
 pub record IsSought (names : NewNames) (old : Entry) (by : ℕ) (label : List ℕ) : Type 0 where
   pub caller : IsCaller names old.by by
   pub leaf : HasLeaf old.step
-  pub named : slice_get names.nameds.items (leaf_in old.step) ≡ Some label
+  pub named : slice_get names.labels.items (leaf_in old.step) ≡ Some label
 
 pub record IsFoundOn (names : NewNames) (c : CaseRun) (old : Entry) (by : ℕ) (label : List ℕ) (new : Entry) : Type 0 where
   pub on : ℕ

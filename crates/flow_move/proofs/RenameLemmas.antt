@@ -7,8 +7,8 @@ use Rattle.flow_move.specs.declared.new_names.Rename.{Rename}
 use Rattle.flow_move.specs.Labels.{renamed}
 
 false_from : (b : Bool) → (b ≡ true → ⊥) → b ≡ false
-false_from true no = absurd (no refl)
-false_from false no = refl
+false_from true not_so = absurd (not_so refl)
+false_from false not_so = refl
 
 first_is : (rs : List Rename) (k : ℕ) (r : Rename) (name : List ℕ) → k < length rs → r ≡ get_or rs k r →
     renamed (drop k rs) name ≡ renamed (r ∷ drop (k + 1) rs) name
