@@ -28,9 +28,7 @@ from measuring import TOP
 BASE = """event enter, check, approve_first, approve_second, pay_card, pay_bank, pack, ship, archive;
 goal enter * check * approve_first * approve_second * ((pay_card + pay_bank) * ins paid(o) | pack) * ?paid(o) * ship * (archive + nop);
 """
-POLICY = """role clerk = ann, bob; role lead = cyd;
-allow clerk enter, check, pay_card, pay_bank, pack, ship, archive; allow lead approve_first, approve_second, check, audit, settle;
-"""
+LEADS = ["approve_first", "approve_second", "check", "audit"]
 STEP_MORE = BASE.replace("archive;\n", "archive, audit;\n", 1).replace("approve_second * ((", "approve_second * audit * ((")
 EXCHANGED = BASE.replace("approve_first * approve_second", "approve_second * approve_first")
 RENAMED = BASE.replace("pay_bank", "settle")
@@ -45,6 +43,14 @@ REFUSED = re.compile(r"refused: entry (\d+) \(.*\) is not legal under the new te
 
 def ran(*words, source=None):
     return subprocess.run([str(it) for it in words], input=source, capture_output=True, text=True, check=False)
+
+
+def policy_of(text):
+    """A policy for the events of the text."""
+    events = re.match(r"event ([^;]*);", text).group(1).split(", ")
+    clerks = [it for it in events if it not in LEADS[:2]]
+    leads = [it for it in events if it in LEADS]
+    return f"role clerk = ann, bob; role lead = cyd, bob;\nallow clerk {', '.join(clerks)}; allow lead {', '.join(leads)};\nseparate approve_first approve_second;\n"
 
 
 class Desk:
@@ -67,7 +73,7 @@ class Desk:
 
     def new(self, name, text, policy):
         case = self.folder / name
-        words = ["--policy", self.text("policy", POLICY)] if policy else []
+        words = ["--policy", self.text("policy", policy_of(text))] if policy else []
         made = self.call("new", case, "--workflow", self.text("text.flow", text), *words)
         assert made.returncode == 0, made
         return case
@@ -171,9 +177,7 @@ def random_cases(desk, count, chance):
         text, words = MOVES[way]
         renames = dict(word.split("=") for word in words[1:])
         possible, wanted = can_go(desk, entries, text, renames, policy)
-        new_policy = ["--policy", desk.text("new.policy", POLICY.replace("pay_bank", "settle"))] if policy and "settle" in text else []
-        if policy and "settle" in text:
-            possible, wanted = can_go_with(desk, entries, text, renames)
+        new_policy = ["--policy", desk.text("new.policy", policy_of(text))] if policy and way != "exchanged" else []
         call = desk.call("move", case, "--workflow", desk.text("new.flow", text), *new_policy, *words, "--as", "cyd", "--at", "later")
         if call.returncode == 0:
             went[way] = went.get(way, 0) + 1
@@ -189,16 +193,6 @@ def random_cases(desk, count, chance):
                 desk.wrong("changed by a refusal", way, call)
         shutil.rmtree(case)
     print(f"{count} cases: moved {went}, refused {stayed}")
-
-
-def can_go_with(desk, entries, text, renames):
-    """As `can_go`, under the policy with the event renamed."""
-    global POLICY
-    kept, POLICY = POLICY, POLICY.replace("pay_bank, ", "settle, ").replace(", settle;", ";")
-    try:
-        return can_go(desk, entries, text, renames, True)
-    finally:
-        POLICY = kept
 
 
 def killed(desk, count, chance):
