@@ -9,6 +9,7 @@ use flow_call_cases::{
     AskerWords, FileCase, asker_in, opened, say_begin, say_folder, say_policy, say_stop, wait_in,
     without_divider,
 };
+use flow_case::CaseRun;
 use flow_case_begin::{Begun, CaseStop, CaseTexts, begin};
 use flow_case_book::Asker;
 use flow_case_files::{
