@@ -5,7 +5,6 @@ use Rattle.std.proofs.lemmas.Option.{same_Some, slice_get_within}
 use Rattle.flow_model.specs.declared.history.Entry.{Entry}
 use Rattle.flow_model.specs.declared.history.Step.{Step}
 use Rattle.flow_workflow.specs.Definition.{Definition}
-use Rattle.flow_core.specs.Answers.{IsLeast}
 use Rattle.flow_core.specs.Run.{Run}
 use Rattle.flow_case.specs.declared.case_run.CaseRun.{CaseRun}
 use Rattle.flow_case.specs.declared.case_run.CaseRun.TheVariants.{Free, UnderPolicy}
@@ -18,7 +17,7 @@ use Rattle.flow_move.specs.Labels.{labels_in}
 use Rattle.flow_move.specs.Moves.{IsCaller, IsStepAs, definition_of, MayMove, Moves, AreMoved, on_leaf, leaf_in}
 use Rattle.flow_move.specs.Causes.{IsLetByRun, IsCause, IsUnmoved, IsCauseOn, IsCauseOf}
 use Rattle.flow_move.specs.Found.{MayOn, HasLeaf}
-use Rattle.flow_move.proofs.StepLemmas.{IsOnSome, step_on, as_on, leaf_on, plain_as, as_plain}
+use Rattle.flow_move.proofs.StepLemmas.{IsOnSome, step_on, as_on, plain_as, as_plain}
 
 -- one number of a user stands for one in the new case
 one_caller : (names : NewNames) (old by other : ℕ) → IsCaller names old by → IsCaller names old other → other ≡ by
@@ -33,7 +32,7 @@ pub record IsSought (names : NewNames) (old : Entry) (by : ℕ) (label : List �
   pub leaf : HasLeaf old.step
   pub named : slice_get names.labels.items (leaf_in old.step) ≡ Some label
 
-pub record IsFoundOn (names : NewNames) (c : CaseRun) (old : Entry) (by : ℕ) (label : List ℕ) (new : Entry) : Type 0 where
+record IsFoundOn (names : NewNames) (c : CaseRun) (old : Entry) (by : ℕ) (label : List ℕ) (new : Entry) : Type 0 where
   pub on : ℕ
   pub may : MayOn c (labels_in (definition_of c)) label by old.step on
   pub is : new.step ≡ on_leaf old.step on
@@ -47,17 +46,6 @@ found_on names c old by label new s ((caller, by_names), can) =
       is = on.is;
     }
 
--- on the least leaf the entry moves
-pub moves_on : (names : NewNames) (c : CaseRun) (old : Entry) (by : ℕ) (label : List ℕ) (leaf : ℕ) → IsSought names old by label →
-    IsLeast (MayOn c (labels_in (definition_of c)) label by old.step) leaf → Moves names c old (record { by = by; step = on_leaf old.step leaf })
-moves_on names c old by label leaf s ((there, can), least) = (
-  ((s.caller, step_on names (definition_of c) old.step label leaf s.leaf s.named there), can),
-  λ other may.
-      let found = found_on names c old by label other s may in
-      let is : leaf_in other.step ≡ found.on = ap leaf_in found.is ∙ leaf_on old.step found.on s.leaf in
-      subst (λ n. n ≤ leaf_in other.step) (sym (leaf_on old.step leaf s.leaf)) (subst (λ n. leaf ≤ n) (sym is) (least found.on found.may)),
-)
-
 -- where it may come on none, it has no place
 none_on : (names : NewNames) (c : CaseRun) (old : Entry) (by : ℕ) (label : List ℕ) → IsSought names old by label →
     ((leaf : ℕ) → ¬ (MayOn c (labels_in (definition_of c)) label by old.step leaf)) → (new : Entry) → ¬ (MayMove names c old new)
@@ -65,6 +53,7 @@ none_on names c old by label s none new may = let found = found_on names c old b
 
 cause_is : (names : NewNames) (c : CaseRun) (old : Entry) (by : ℕ) (label : List ℕ) (cause : Cause) → IsSought names old by label →
     IsCauseOn (run_of c) (labels_in (definition_of c)) label old.step (length (labels_in (definition_of c))) cause → IsCause names c old cause
+cause_is names c old by label NoUser s none = elim none [ ]
 cause_is names c old by label NoName s none = (
   (by, s.caller),
   λ step by_names.
@@ -83,7 +72,7 @@ cause_is names c old by label Forbidden s (leaf, there, lets) = (
   (on_leaf old.step leaf, (step_on names (definition_of c) old.step label leaf s.leaf s.named there, lets)),
 )
 
-pub unmoved_on : (names : NewNames) (c : CaseRun) (old : Entry) (by : ℕ) (label : List ℕ) (cause : Cause) → IsSought names old by label →
+unmoved_on : (names : NewNames) (c : CaseRun) (old : Entry) (by : ℕ) (label : List ℕ) (cause : Cause) → IsSought names old by label →
     ((leaf : ℕ) → ¬ (MayOn c (labels_in (definition_of c)) label by old.step leaf)) →
     IsCauseOn (run_of c) (labels_in (definition_of c)) label old.step (length (labels_in (definition_of c))) cause → IsUnmoved names c old cause
 unmoved_on names c old by label cause s none on = record {
@@ -92,15 +81,6 @@ unmoved_on names c old by label cause s none on = record {
 }
 
 -- ---- a step that has no leaf
-
-pub moves_plain : (names : NewNames) (c : CaseRun) (old : Entry) (by : ℕ) → IsCaller names old.by by → ¬ (HasLeaf old.step) →
-    CanMakeInCase c (record { by = by; step = old.step }) → Moves names c old (record { by = by; step = old.step })
-moves_plain names c old by caller plain can = (
-  ((caller, as_plain names (definition_of c) old.step plain), can),
-  λ other may.
-      let is : other.step ≡ old.step = plain_as names (definition_of c) old.step other.step plain may.0.1 in
-      subst (λ n. leaf_in old.step ≤ n) (ap leaf_in (sym is)) (omega arith),
-)
 
 plain_cause : (names : NewNames) (c : CaseRun) (old : Entry) (by : ℕ) (cause : Cause) → IsCaller names old.by by → ¬ (HasLeaf old.step) →
     IsCauseOf (run_of c) old.step cause → IsCause names c old cause
@@ -113,7 +93,7 @@ plain_cause names c old by NotNow caller plain none = (
 )
 plain_cause names c old by Forbidden caller plain lets = ((by, caller), (old.step, (as_plain names (definition_of c) old.step plain, lets)))
 
-pub unmoved_plain : (names : NewNames) (c : CaseRun) (old : Entry) (by : ℕ) (cause : Cause) → IsCaller names old.by by → ¬ (HasLeaf old.step) →
+unmoved_plain : (names : NewNames) (c : CaseRun) (old : Entry) (by : ℕ) (cause : Cause) → IsCaller names old.by by → ¬ (HasLeaf old.step) →
     ¬ (CanMakeInCase c (record { by = by; step = old.step })) → IsCauseOf (run_of c) old.step cause → IsUnmoved names c old cause
 unmoved_plain names c old by cause caller plain cannot why = record {
   none = λ new may. cannot (subst (CanMakeInCase c)
@@ -127,15 +107,11 @@ abbrev with_history : CaseRun → List Entry → CaseRun
 with_history (Free r) history = Free (record r { history = history })
 with_history (UnderPolicy c) history = UnderPolicy (record c { desk = record c.desk { run = record c.desk.run { history = history } } })
 
-pub with_both : (c : CaseRun) (xs ys : List Entry) → case_with (case_with c xs) ys ≡ case_with c (xs ++ ys)
+with_both : (c : CaseRun) (xs ys : List Entry) → case_with (case_with c xs) ys ≡ case_with c (xs ++ ys)
 with_both (Free r) xs ys = ap (with_history (Free r)) (append_assoc r.history xs ys)
 with_both (UnderPolicy c) xs ys = ap (with_history (UnderPolicy c)) (append_assoc c.desk.run.history xs ys)
 
-pub same_definition : (c : CaseRun) (entries : List Entry) → definition_of (case_with c entries) ≡ definition_of c
-same_definition (Free r) entries = refl
-same_definition (UnderPolicy c) entries = refl
-
-pub moved_more : (names : NewNames) (c : CaseRun) (olds : List Entry) (old : Entry) (made : List Entry) (new : Entry) → AreMoved names c olds made →
+moved_more : (names : NewNames) (c : CaseRun) (olds : List Entry) (old : Entry) (made : List Entry) (new : Entry) → AreMoved names c olds made →
     Moves names (case_with c made) old new → AreMoved names c (olds ++ old ∷ []) (made ++ new ∷ [])
 moved_more names c [] old made new none moves = (
   new,

@@ -44,15 +44,6 @@ as_on names w (Late claim) label other has named by_names = elim has [ ]
 as_on names w (Rewound index) label other has named by_names = elim has [ ]
 as_on names w Committed label other has named by_names = elim has [ ]
 
-pub leaf_on : (step : Step) (leaf : ℕ) → HasLeaf step → leaf_in (on_leaf step leaf) ≡ leaf
-leaf_on (Took claim old) leaf has = refl
-leaf_on (Did old) leaf has = refl
-leaf_on (Done claim) leaf has = elim has [ ]
-leaf_on (Failed claim effect) leaf has = elim has [ ]
-leaf_on (Late claim) leaf has = elim has [ ]
-leaf_on (Rewound index) leaf has = elim has [ ]
-leaf_on Committed leaf has = elim has [ ]
-
 -- a step that has no leaf is itself by names
 pub plain_as : (names : NewNames) (w : Definition) (step other : Step) → ¬ (HasLeaf step) → IsStepAs names w step other → other ≡ step
 plain_as names w (Took claim leaf) other plain by_names = absurd (plain tt)
