@@ -10,7 +10,8 @@ ghost use Rattle.flow_core.specs.Holding.{IsTakeable};
 ghost use Rattle.flow_case.specs.CaseRun.{run_of, CaseAnswers};
 ghost use Rattle.flow_keep.specs.Answered.{KeepAnswers, LeavesKept};
 ghost use Rattle.flow_keep.specs.Records.{Keeps};
-ghost use Rattle.flow_trail.specs.Lines.{Said, undone, end_of, trail_text, Says};
+ghost use Rattle.flow_trail.specs.Lines.{Said, undone, remark, end_of, trail_text, Says};
+ghost use Rattle.flow_trail.specs.declared.line.About.TheVariants as about;
 ghost use Rattle.flow_trail.specs.Due.{Entered, Tells, IsOther, IsMissing};
 ghost use Rattle.flow_case_cli.specs.Held as cli;
 ghost use Rattle.flow_case_cli.specs.Line.{TellsEntry};
@@ -32,7 +33,7 @@ use flow_core::Core;
 use flow_disk::Disk;
 use flow_names::{steps_to_take, tidy_steps, waits_for_step};
 use flow_policy::Policy;
-use flow_trail::{TrailLine, VerifyRefusal};
+use flow_trail::{About, TrailLine, VerifyRefusal};
 use std::alloc::{AllocError, Global};
 
 /// A case with its texts, and its users by name.
@@ -127,6 +128,22 @@ impl<D: Disk, T: Disk> CaseBook<D, T> {
             Ok(dues) => self.case.trail().check(&dues),
             Err(AllocError) => Err(VerifyRefusal::NoMemory),
         }
+    }
+
+    /// Notes that the case goes on with the entries of another, whose trail ended by that seal. The run stays as it is.
+    #[tactic(auto, using(crate::proofs::BookLemmas::same_begun))]
+    pub fn tell_move(&mut self, seal: &str, asker: Asker<'_>) -> Result<(), Refusal>
+        ensures broken { (result ≡ Err refusal.Broken) ↔ (is_broken self.old ≡ true) }
+        ensures refused { is_broken self.old ≡ false → is_broken self.new ≡ is_err result }
+        ensures run { case_of self.new ≡ case_of self.old }
+        ensures keep { keep_disk self.new ≡ keep_disk self.old }
+        ensures start { start_of self.new ≡ start_of self.old }
+        ensures told { length (run_of (case_of self.old)).history < 2 ^ 32 → is_broken self.old ≡ false → TellsLine T.tells T.moment T.image (start_of self.old) (said_in self.old)
+            (remark about.Moved seal.now (length (run_of (case_of self.old)).history) asker.entry.name.now asker.entry.at.now) (trail_disk self.old) (trail_disk self.new) (said_in self.new) (is_broken self.new) }
+    {
+        let entries = u32::try_from(self.case.run().core().history().len()).unwrap_or(u32::MAX);
+        self.case
+            .remark(self.alloc, About::Moved, seal, entries, asker)
     }
 
     /// Another run with the same history, which is not kept.
@@ -246,7 +263,9 @@ impl<D: Disk, T: Disk> Book for CaseBook<D, T> {
     fn is_ticked_off(&self, done: usize) -> bool {
         let number = (done as u64).saturating_add(1);
         self.case.trail().lines().iter().any(|line| match line {
-            TrailLine::Undone(undoing) => u64::from(undoing.entry) == number,
+            TrailLine::Remark(remark) => {
+                remark.about == About::Undone && u64::from(remark.entry) == number
+            }
             _ => false,
         })
     }

@@ -225,7 +225,7 @@ fn lines_of(alloc: Global, lines: &[TrailLine]) -> Result<Vec<usize>, AllocError
             TrailLine::Void { .. } => {
                 let _ = told.pop();
             }
-            TrailLine::Undone(_) => {}
+            TrailLine::Remark(_) => {}
         }
     }
     Ok(told)

@@ -31,7 +31,8 @@ use Rattle.flow_keep.specs.Kept.{IsKept, KeepsEither}
 use Rattle.flow_keep.specs.Answered.{KeepAnswers, LeavesKept}
 use Rattle.flow_keep.proofs.MomentLemmas.{started}
 use Rattle.flow_trail.specs.declared.line.TrailEnd.{TrailEnd}
-use Rattle.flow_trail.specs.Lines.{Said, undone, AreInOrder, end_of, end_behind}
+use Rattle.flow_trail.specs.declared.line.About.{About}
+use Rattle.flow_trail.specs.Lines.{Said, remark, AreInOrder, end_of, end_behind}
 use Rattle.flow_trail.proofs.ReadLemmas.{end_append}
 use Rattle.std.proofs.lemmas.Option.{get_or_from_slice_get}
 use Rattle.flow_model.specs.declared.history.Step.{Step}
@@ -177,10 +178,10 @@ counted_more start before after said r later what by asker counted more (step, l
     ap (λ (l : List Said). (end_of start l).count) more ∙ ap (λ (e : TrailEnd). e.count) (end_append said start before)
     ∙ ap (λ (x : Said). (end_behind (end_of start before) x).count) tells ∙ ap (λ n. n + 1) counted ∙ sym size
 
--- a line that ticks off tells no entry
-pub counted_same : (start start' : TrailEnd) (before after : List Said) (said : Said) (task by at : List ℕ) (entry : ℕ) → start' ≡ start → after ≡ before ++ said ∷ [] →
-    said ≡ undone task entry by at → (end_of start' after).count ≡ (end_of start before).count
-counted_same start start' before after said task by at entry same more is =
+-- a remark tells no entry
+pub counted_same : (start start' : TrailEnd) (before after : List Said) (said : Said) (about : About) (text by at : List ℕ) (entry : ℕ) → start' ≡ start → after ≡ before ++ said ∷ [] →
+    said ≡ remark about text entry by at → (end_of start' after).count ≡ (end_of start before).count
+counted_same start start' before after said about text by at entry same more is =
     ap (λ (e : TrailEnd). (end_of e after).count) same ∙ ap (λ (l : List Said). (end_of start l).count) more
     ∙ ap (λ (e : TrailEnd). e.count) (end_append said start before) ∙ ap (λ (x : Said). (end_behind (end_of start before) x).count) is
 

@@ -2,8 +2,9 @@
 use Rattle.std.proofs.Common.{◌≡◌, inl, inr, ℕ, zero, suc, ◌+◌, ◌-◌, ◌<◌, ◌≤◌, true, false, List, [], ◌∷◌, ◌++◌, map, length, take, drop, get_or, refl, sym, ◌∙◌, ap, subst, append_assoc, append-nil, take-append-drop, length-drop, length-take, arith}
 use Rattle.std.specs.Prelude.{◌==◌}
 use Rattle.std.proofs.lemmas.List.{drop_more, drop_all, drop-drop}
+use Rattle.flow_trail.specs.declared.line.About.{About}
 use Rattle.flow_trail.specs.declared.line.TrailEnd.{TrailEnd}
-use Rattle.flow_trail.specs.Lines.{Said, told, void, undone, end_behind, end_of}
+use Rattle.flow_trail.specs.Lines.{Said, told, void, remark, end_behind, end_of}
 use Rattle.flow_trail.specs.declared.due.Tale.{Tale}
 use Rattle.flow_trail.specs.declared.due.Tale.TheVariants as tale
 use Rattle.flow_trail.specs.Due.{Entered, begins_void, tells, Tells, IsUndue, IsOther, IsMissing, IsTale}
@@ -137,8 +138,8 @@ empty_of f (x ∷ xs) none = absurd (omega (arith, none))
 pub void_tale : (saying more : List Said) (at : List ℕ) → saying ≡ void at ∷ more → tells saying ≡ tells (drop 1 saying)
 void_tale saying more at is = ap tells is ∙ ap (λ (l : List Said). tells (drop 1 l)) (sym is)
 
-pub undone_tale : (saying more : List Said) (task : List ℕ) (entry : ℕ) (by at : List ℕ) → saying ≡ undone task entry by at ∷ more → tells saying ≡ tells (drop 1 saying)
-undone_tale saying more task entry by at is = ap tells is ∙ ap (λ (l : List Said). tells (drop 1 l)) (sym is)
+pub remark_tale : (saying more : List Said) (about : About) (text : List ℕ) (entry : ℕ) (by at : List ℕ) → saying ≡ remark about text entry by at ∷ more → tells saying ≡ tells (drop 1 saying)
+remark_tale saying more about text entry by at is = ap tells is ∙ ap (λ (l : List Said). tells (drop 1 l)) (sym is)
 
 -- the same in other words
 pub same_tale : (saying saying' : List Said) (due due' : List Entered) (what : Tale) → saying' ≡ saying → due' ≡ due → IsTale saying due what → IsTale saying' due' what

@@ -10,7 +10,7 @@ use Rattle.std.proofs.lemmas.List.{take_at}
 use Rattle.flow_record.specs.Lines.{pieces_of}
 use Rattle.flow_trail.specs.declared.line.TrailLine.{TrailLine}
 use Rattle.flow_trail.specs.declared.line.TrailEnd.{TrailEnd}
-use Rattle.flow_trail.specs.Lines.{Said, told, void, undone, said_of, IsSayable, CanFollow, line_text}
+use Rattle.flow_trail.specs.Lines.{Said, told, void, remark, said_of, IsSayable, CanFollow, line_text}
 use Rattle.flow_trail.specs.Read.{text_in, IsPicked, IsGuess}
 use Rattle.flow_trail.proofs.PickLemmas.{line_picked}
 
@@ -35,7 +35,7 @@ short_guess ps ps' line note same size none made (told at by entry task other) (
 short_guess ps ps' line note same size none made (told at by entry task other) (u1, u2, u3, u4, u5) (e1, e2, e3, e4, inr short) =
     told_is ps' line note at by entry task (subst (λ (l : List (List ℕ)). IsTold l note line) same made) u1 u2 u3 u4 e1 e2 e3 e4 ∙ ap (told at by entry task) (none ∙ sym short.1)
 short_guess ps ps' line note same size none made (void at) sayable picked = absurd (omega (arith, picked.0, size))
-short_guess ps ps' line note same size none made (undone task entry by at) sayable picked = absurd (omega (arith, picked.0, size))
+short_guess ps ps' line note same size none made (remark about text entry by at) sayable picked = absurd (omega (arith, picked.0, size))
 
 pub long_guess : (ps ps' : List (List ℕ)) (line : TrailLine) (note : List ℕ) → ps ≡ ps' → length ps' ≡ 27 → (IsUtf8 (text_in ps 21) → note ≡ text_in ps 21) → IsTold ps note line → IsGuess ps' (Some line)
 long_guess ps ps' line note same size has made (told at by entry task other) (u1, u2, u3, u4, u5) (e1, e2, e3, e4, inr short) = absurd (omega (arith, short.0, size))
@@ -43,7 +43,7 @@ long_guess ps ps' line note same size has made (told at by entry task other) (u1
     let note_is : note ≡ text_in ps' 21 = subst (λ (l : List (List ℕ)). IsUtf8 (text_in l 21) → note ≡ text_in l 21) same has (subst IsUtf8 (sym long.1) u5) in
     told_is ps' line note at by entry task (subst (λ (l : List (List ℕ)). IsTold l note line) same made) u1 u2 u3 u4 e1 e2 e3 e4 ∙ ap (told at by entry task) (note_is ∙ long.1)
 long_guess ps ps' line note same size has made (void at) sayable picked = absurd (omega (arith, picked.0, size))
-long_guess ps ps' line note same size has made (undone task entry by at) sayable picked = absurd (omega (arith, picked.0, size))
+long_guess ps ps' line note same size has made (remark about text entry by at) sayable picked = absurd (omega (arith, picked.0, size))
 
 -- a text that is a line's
 module _ (e : TrailEnd) (text : List ℕ) (said : Said) (sayable : IsSayable said) (follows : CanFollow e said) (spells : text ≡ line_text e said) where

@@ -10,9 +10,11 @@ use Rattle.flow_record.specs.Lines.{pieces_of}
 use Rattle.flow_record.specs.Number.{is_digit}
 use Rattle.flow_record.proofs.LineLemmas.{lacks, first_other, others_lack, pieces_cut}
 use Rattle.flow_record.proofs.NumberLemmas.{decimal_digits}
+use Rattle.flow_trail.specs.declared.line.About.{About}
+use Rattle.flow_trail.specs.declared.line.About.TheVariants.{Undone, Moved}
 use Rattle.flow_trail.specs.declared.line.TrailEnd.{TrailEnd}
 use Rattle.flow_trail.specs.Spelling.{spelt}
-use Rattle.flow_trail.specs.Lines.{Said, told, void, undone, IsSayable, CanFollow, member, note_member, sealed_text, seal_of, line_text}
+use Rattle.flow_trail.specs.Lines.{Said, told, void, remark, IsSayable, CanFollow, member, note_member, word_of, sealed_text, seal_of, line_text}
 use Rattle.flow_trail.specs.Read.{IsPicked}
 use Rattle.flow_trail.proofs.SpellingLemmas.{unspelt_spelt, both_lack, spelt_lacks, hex_lacks}
 
@@ -142,20 +144,33 @@ void_pieces e at small =
     ap (pieces_of 34) (whole e (void at) ∙ regroup4 (codes "{\"n\":") (decimal e.count) (codes ",\"void\":true") (member (codes "at") at) (tail seal))
     ∙ numbered e.count (codes ",\"void\":true" ++ (member (codes "at") at ++ tail seal)) _ small rest
 
-undone_pieces : (e : TrailEnd) (task : List ℕ) (entry : ℕ) (by at : List ℕ) → entry < 2 ^ 32 → pieces_of 34 (line_text e (undone task entry by at)) ≡
-    (123 ∷ []) ∷ codes "undone" ∷ (58 ∷ []) ∷ spelt task ∷ (44 ∷ []) ∷ codes "entry" ∷ (58 ∷ (decimal entry ++ 44 ∷ [])) ∷ codes "by" ∷ (58 ∷ []) ∷ spelt by
-    ∷ (44 ∷ []) ∷ codes "at" ∷ (58 ∷ []) ∷ spelt at ∷ (44 ∷ []) ∷ seal_end (seal_of e (undone task entry by at))
-undone_pieces e task entry by at small =
-    let said : Said = undone task entry by at in
+-- a remark up to its text
+abbrev head : About → List ℕ
+head about = codes "{\"" ++ word_of about ++ codes "\":\""
+
+head_pieces : (about : About) (rest : List ℕ) → pieces_of 34 (head about ++ rest) ≡ (123 ∷ []) ∷ word_of about ∷ (58 ∷ []) ∷ pieces_of 34 rest
+head_pieces Undone rest = refl
+head_pieces Moved rest = refl
+
+head_lacks : (about : About) → lacks 10 (head about) ≡ true
+head_lacks Undone = refl
+head_lacks Moved = refl
+
+remark_pieces : (e : TrailEnd) (about : About) (text : List ℕ) (entry : ℕ) (by at : List ℕ) → entry < 2 ^ 32 → pieces_of 34 (line_text e (remark about text entry by at)) ≡
+    (123 ∷ []) ∷ word_of about ∷ (58 ∷ []) ∷ spelt text ∷ (44 ∷ []) ∷ codes "entry" ∷ (58 ∷ (decimal entry ++ 44 ∷ [])) ∷ codes "by" ∷ (58 ∷ []) ∷ spelt by
+    ∷ (44 ∷ []) ∷ codes "at" ∷ (58 ∷ []) ∷ spelt at ∷ (44 ∷ []) ∷ seal_end (seal_of e (remark about text entry by at))
+remark_pieces e about text entry by at small =
+    let said : Said = remark about text entry by at in
     let seal = seal_of e said in
     let last = member_pieces (codes "at") at (tail seal) (44 ∷ []) (seal_end seal) refl (tail_pieces seal) in
     let members = member_pieces (codes "by") by (member (codes "at") at ++ tail seal) (44 ∷ []) _ refl last in
     let number = behind (decimal entry) (member (codes "by") by ++ (member (codes "at") at ++ tail seal)) (44 ∷ []) _ (decimal_lacks 34 entry (omega arith) small) members in
     let rest = behind (58 ∷ []) (decimal entry ++ (member (codes "by") by ++ (member (codes "at") at ++ tail seal))) _ _ refl number in
-    ap (pieces_of 34) (whole e said ∙ regroup6 (codes "{\"undone\":\"") (spelt task) (codes "\",\"entry\":") (decimal entry) (member (codes "by") by) (member (codes "at") at) (tail seal))
-    ∙ ap (λ (l : List (List ℕ)). (123 ∷ []) ∷ codes "undone" ∷ (58 ∷ []) ∷ l)
-    (pieces_cut 34 (spelt task) (44 ∷ 34 ∷ (codes "entry" ++ 34 ∷ 58 ∷ (decimal entry ++ (member (codes "by") by ++ (member (codes "at") at ++ tail seal))))) (spelt_lacks 34 task (omega arith) refl)
-    ∙ ap (λ (l : List (List ℕ)). spelt task ∷ (44 ∷ []) ∷ codes "entry" ∷ l) rest)
+    ap (pieces_of 34) (whole e said ∙ regroup6 (head about) (spelt text) (codes "\",\"entry\":") (decimal entry) (member (codes "by") by) (member (codes "at") at) (tail seal))
+    ∙ head_pieces about (spelt text ++ (codes "\",\"entry\":" ++ (decimal entry ++ (member (codes "by") by ++ (member (codes "at") at ++ tail seal)))))
+    ∙ ap (λ (l : List (List ℕ)). (123 ∷ []) ∷ word_of about ∷ (58 ∷ []) ∷ l)
+    (pieces_cut 34 (spelt text) (44 ∷ 34 ∷ (codes "entry" ++ 34 ∷ 58 ∷ (decimal entry ++ (member (codes "by") by ++ (member (codes "at") at ++ tail seal))))) (spelt_lacks 34 text (omega arith) refl)
+    ∙ ap (λ (l : List (List ℕ)). spelt text ∷ (44 ∷ []) ∷ codes "entry" ∷ l) rest)
 
 pub line_picked : (e : TrailEnd) (said : Said) → IsSayable said → CanFollow e said → IsPicked (pieces_of 34 (line_text e said)) said
 line_picked e (told at by entry task []) sayable follows =
@@ -166,8 +181,8 @@ line_picked e (told at by entry task (b ∷ bs)) sayable follows =
     (unspelt_spelt at, unspelt_spelt by, unspelt_spelt entry, unspelt_spelt task, inl (refl, unspelt_spelt (b ∷ bs)))
 line_picked e (void at) sayable follows =
     subst (λ (l : List (List ℕ)). IsPicked l (void at)) (sym (void_pieces e at follows.1.1)) (refl, unspelt_spelt at)
-line_picked e (undone task entry by at) sayable follows =
-    subst (λ (l : List (List ℕ)). IsPicked l (undone task entry by at)) (sym (undone_pieces e task entry by at sayable.1)) (refl, unspelt_spelt task, refl, unspelt_spelt by, unspelt_spelt at)
+line_picked e (remark about text entry by at) sayable follows =
+    subst (λ (l : List (List ℕ)). IsPicked l (remark about text entry by at)) (sym (remark_pieces e about text entry by at sayable.1)) (refl, refl, unspelt_spelt text, refl, unspelt_spelt by, unspelt_spelt at)
 
 -- ---- no newline
 
@@ -193,11 +208,11 @@ sealed_lacks e (void at) sayable follows =
     both_lack 10 (codes "{\"n\":" ++ decimal e.count ++ codes ",\"void\":true") (member (codes "at") at)
     (both_lack 10 (codes "{\"n\":" ++ decimal e.count) (codes ",\"void\":true") (both_lack 10 (codes "{\"n\":") (decimal e.count) refl (decimal_lacks 10 e.count (omega arith) follows.1.1)) refl)
     (member_lacks (codes "at") at refl)
-sealed_lacks e (undone task entry by at) sayable follows =
-    both_lack 10 (codes "{\"undone\":\"" ++ spelt task ++ codes "\",\"entry\":" ++ decimal entry ++ member (codes "by") by) (member (codes "at") at)
-    (both_lack 10 (codes "{\"undone\":\"" ++ spelt task ++ codes "\",\"entry\":" ++ decimal entry) (member (codes "by") by)
-    (both_lack 10 (codes "{\"undone\":\"" ++ spelt task ++ codes "\",\"entry\":") (decimal entry)
-    (both_lack 10 (codes "{\"undone\":\"" ++ spelt task) (codes "\",\"entry\":") (both_lack 10 (codes "{\"undone\":\"") (spelt task) refl (spelt_lacks 10 task (omega arith) refl)) refl)
+sealed_lacks e (remark about text entry by at) sayable follows =
+    both_lack 10 (head about ++ spelt text ++ codes "\",\"entry\":" ++ decimal entry ++ member (codes "by") by) (member (codes "at") at)
+    (both_lack 10 (head about ++ spelt text ++ codes "\",\"entry\":" ++ decimal entry) (member (codes "by") by)
+    (both_lack 10 (head about ++ spelt text ++ codes "\",\"entry\":") (decimal entry)
+    (both_lack 10 (head about ++ spelt text) (codes "\",\"entry\":") (both_lack 10 (head about) (spelt text) (head_lacks about) (spelt_lacks 10 text (omega arith) refl)) refl)
     (decimal_lacks 10 entry (omega arith) sayable.1)) (member_lacks (codes "by") by refl)) (member_lacks (codes "at") at refl)
 
 pub line_lacks : (e : TrailEnd) (said : Said) → IsSayable said → CanFollow e said → lacks 10 (line_text e said) ≡ true
@@ -211,4 +226,4 @@ pub line_brace : (e : TrailEnd) (said : Said) → (rest : List ℕ) × (line_tex
 unfolding line_text
 line_brace e (told at by entry task note) = (_, refl)
 line_brace e (void at) = (_, refl)
-line_brace e (undone task entry by at) = (_, refl)
+line_brace e (remark about text entry by at) = (_, refl)

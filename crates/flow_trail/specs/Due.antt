@@ -10,7 +10,7 @@ use Rattle.flow_trail.specs.declared.refusal.ReadRefusal.{ReadRefusal}
 use Rattle.flow_trail.specs.declared.refusal.ReadRefusal.TheVariants as read
 use Rattle.flow_trail.specs.declared.refusal.VerifyRefusal.{VerifyRefusal}
 use Rattle.flow_trail.specs.declared.refusal.VerifyRefusal.TheVariants as verify
-use Rattle.flow_trail.specs.Lines.{Said, told, void, undone, end_of}
+use Rattle.flow_trail.specs.Lines.{Said, told, void, remark, end_of}
 
 -- by whom an entry was made, the step in words, and the name of its task
 pub record Entered : Type 0 where
@@ -35,13 +35,13 @@ abbrev pub begins_void : List Said → Bool
 begins_void [] = false
 begins_void (told at by entry task note ∷ more) = false
 begins_void (void at ∷ more) = true
-begins_void (undone task entry by at ∷ more) = false
+begins_void (remark about text entry by at ∷ more) = false
 
 -- what a line tells, in front of what those behind it tell
 abbrev pub told_by : Said → Bool → List Entered → List Entered
 told_by (told at by entry task note) voided more = if voided then more else record { by = by; entry = entry; task = task } ∷ more
 told_by (void at) voided more = more
-told_by (undone task entry by at) voided more = more
+told_by (remark about text entry by at) voided more = more
 
 -- the entries that lines tell, in order: a line in front of a void one tells none
 abbrev pub tells : List Said → List Entered

@@ -5,7 +5,7 @@ use Rattle.flow_trail.specs.declared.line.TrailLine.{TrailLine}
 use Rattle.flow_trail.specs.declared.line.TrailEnd.{TrailEnd}
 use Rattle.flow_trail.specs.Whole.{is_open}
 use Rattle.flow_trail.specs.Spelling.{unspelt}
-use Rattle.flow_trail.specs.Lines.{Said, told, void, undone, said_of, IsSayable, line_text, CanFollow, end_behind, end_of, trail_text, AreInOrder}
+use Rattle.flow_trail.specs.Lines.{Said, told, void, remark, word_of, said_of, IsSayable, line_text, CanFollow, end_behind, end_of, trail_text, AreInOrder}
 
 -- ---- a line by its pieces, which stand between its quotes
 
@@ -19,8 +19,8 @@ IsPicked ps (told at by entry task note) =
     (text_in ps 5 ≡ at) × (text_in ps 9 ≡ by) × (text_in ps 13 ≡ entry) × (text_in ps 17 ≡ task)
     × (((length ps ≡ 27) × (text_in ps 21 ≡ note)) ⊎ ((length ps ≡ 23) × (note ≡ [])))
 IsPicked ps (void at) = (length ps ≡ 13) × (text_in ps 7 ≡ at)
-IsPicked ps (undone task entry by at) =
-    (length ps ≡ 19) × (text_in ps 3 ≡ task) × (get_or ps 6 [] ≡ 58 ∷ (decimal entry ++ 44 ∷ [])) × (text_in ps 9 ≡ by) × (text_in ps 13 ≡ at)
+IsPicked ps (remark about text entry by at) =
+    (length ps ≡ 19) × (get_or ps 1 [] ≡ word_of about) × (text_in ps 3 ≡ text) × (get_or ps 6 [] ≡ 58 ∷ (decimal entry ++ 44 ∷ [])) × (text_in ps 9 ≡ by) × (text_in ps 13 ≡ at)
 
 -- whatever line the pieces are of, it is this one
 abbrev pub IsGuess : List (List ℕ) → Option TrailLine → Type 0

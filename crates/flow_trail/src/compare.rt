@@ -42,7 +42,7 @@ fn tale(lines: &[TrailLine], index: usize, due: &[Due], count: usize) -> Tale
     match &lines[index] {
         TrailLine::Told(telling) => told_tale(telling, &lines[index + 1..], &due[count..]),
         TrailLine::Void { .. } => Tale::Nothing,
-        TrailLine::Undone(_undoing) => Tale::Nothing,
+        TrailLine::Remark(_remark) => Tale::Nothing,
     }
 }
 

@@ -5,10 +5,11 @@ ghost use Rattle.std.specs.String.{string_bytes};
 ghost use Rattle.std.specs.Fmt.{decimal};
 ghost use Rattle.flow_record.specs.Lines.{pieces_of};
 ghost use Rattle.flow_trail.specs.Spelling.{unspelt};
-ghost use Rattle.flow_trail.specs.Lines.{said_of, told, void, undone};
+ghost use Rattle.flow_trail.specs.Lines.{said_of, told, void, word_of};
 ghost use Rattle.flow_trail.specs.Read.{text_in, IsGuess};
+ghost use Rattle.flow_trail.specs.declared.line.About.{About as Abouts};
 
-use crate::line::{Telling, TrailLine, Undoing};
+use crate::line::{About, Remark, Telling, TrailLine};
 use crate::pieces::{piece_at, pieces_of};
 use crate::spelling::unspelt;
 use std::alloc::{AllocError, Global};
@@ -20,7 +21,7 @@ pub(crate) fn guess(alloc: Global, text: &[u8]) -> Result<Option<TrailLine>, All
     let pieces = pieces_of(alloc, text)?;
     match pieces.len() {
         13 => Ok(Some(guess_void(alloc, &pieces)?)),
-        19 => guess_undone(alloc, &pieces),
+        19 => guess_remark(alloc, &pieces),
         23 => {
             let note = String::new(alloc);
             Ok(Some(guess_told(alloc, &pieces, note)?))
@@ -61,18 +62,30 @@ fn guess_void(alloc: Global, pieces: &[&[u8]]) -> Result<TrailLine, AllocError>
     Ok(TrailLine::Void { at })
 }
 
-fn guess_undone(alloc: Global, pieces: &[&[u8]]) -> Result<Option<TrailLine>, AllocError>
+/// What a line is about whose first member has that name.
+fn about_in(name: &[u8]) -> About
+    ensures { (about : Abouts) → name.now ≡ word_of about → result ≡ about }
+{
+    if name == b"moved".as_slice() {
+        About::Moved
+    } else {
+        About::Undone
+    }
+}
+
+fn guess_remark(alloc: Global, pieces: &[&[u8]]) -> Result<Option<TrailLine>, AllocError>
     requires { length pieces.now ≡ 19 }
     ensures { IfOk result (IsGuess (map (λ piece. piece.now) pieces.now)) }
 {
     let Some(entry) = read_number(alloc, piece_at(pieces, 6))? else {
         return Ok(None);
     };
-    let task = read_text(alloc, piece_at(pieces, 3))?;
+    let text = read_text(alloc, piece_at(pieces, 3))?;
     let by = read_text(alloc, piece_at(pieces, 9))?;
     let at = read_text(alloc, piece_at(pieces, 13))?;
-    Ok(Some(TrailLine::Undone(Undoing {
-        task,
+    Ok(Some(TrailLine::Remark(Remark {
+        about: about_in(piece_at(pieces, 1)),
+        text,
         entry,
         by,
         at,

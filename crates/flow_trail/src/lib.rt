@@ -20,7 +20,7 @@ mod trail;
 
 pub use checked::{Verified, verify};
 pub use due::Due;
-pub use line::{Telling, TrailEnd, TrailLine, Undoing};
+pub use line::{About, Remark, Telling, TrailEnd, TrailLine};
 pub use open::UnopenedTrail;
 pub use read::{ReadTrail, read_trail};
 pub use refusal::{OpenRefusal, ReadRefusal, TellRefusal, VerifyRefusal};

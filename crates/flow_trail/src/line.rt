@@ -8,8 +8,8 @@ pub enum TrailLine {
     Told(Telling),
     /// The line before it has no entry.
     Void { at: String },
-    /// What a step back took away is undone outside.
-    Undone(Undoing),
+    /// It tells no entry.
+    Remark(Remark),
 }
 
 /// Who made an entry, when, and what it is.
@@ -26,14 +26,38 @@ pub struct Telling {
     pub note: String,
 }
 
-/// Who ticks off what a step back took away, and when.
+/// What a remark is about.
+#[derive(Clone, Copy, PartialEq, Eq)]
+pub enum About {
+    /// What a step back took away is undone outside. The text is the name of the task, and the entry the one by which it was done.
+    Undone,
+    /// The case goes on under other texts. The text is the last seal of the trail before, and there are so many entries.
+    Moved,
+}
+
+/// A line that tells no entry, and who made it when.
 #[derive(Drop)]
-pub struct Undoing {
-    pub task: String,
-    /// The number of the entry by which the task was done, from 1.
+pub struct Remark {
+    pub about: About,
+    pub text: String,
+    /// The number of an entry, from 1.
     pub entry: u32,
     pub by: String,
     pub at: String,
+}
+
+impl About {
+    ghost use Rattle.flow_trail.specs.Lines.{word_of};
+
+    /// The name of the first member of such a line.
+    pub(crate) fn word(self) -> &'static [u8]
+        ensures { result.now ≡ word_of self }
+    {
+        match self {
+            About::Undone => b"undone",
+            About::Moved => b"moved",
+        }
+    }
 }
 
 /// Where a trail ends: what its next line is sealed by, and how it is numbered.
@@ -67,7 +91,7 @@ impl TrailEnd {
         match line {
             TrailLine::Told(_) => self.count < u32::MAX,
             TrailLine::Void { .. } => self.last_told && self.count > 0,
-            TrailLine::Undone(_) => true,
+            TrailLine::Remark(_) => true,
         }
     }
 
@@ -87,7 +111,7 @@ impl TrailEnd {
                 count: self.count - 1,
                 last_told: false,
             },
-            TrailLine::Undone(_) => TrailEnd {
+            TrailLine::Remark(_) => TrailEnd {
                 seal,
                 count: self.count,
                 last_told: false,

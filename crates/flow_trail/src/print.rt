@@ -3,9 +3,9 @@ ghost use Rattle.std.specs.Prelude.{◌≡◌, ◌++◌, codes, OnOk, IfOk};
 ghost use Rattle.std.specs.Fmt.{decimal};
 ghost use Rattle.std.specs.String.{string_bytes};
 ghost use Rattle.flow_trail.specs.Spelling.{spelt};
-ghost use Rattle.flow_trail.specs.Lines.{said_of, member, note_member, sealed_text, line_text, CanFollow, end_behind};
+ghost use Rattle.flow_trail.specs.Lines.{said_of, member, note_member, word_of, sealed_text, line_text, CanFollow, end_behind};
 
-use crate::line::{Telling, TrailEnd, TrailLine, Undoing};
+use crate::line::{Remark, Telling, TrailEnd, TrailLine};
 use crate::seal::seal_behind;
 use crate::spelling::push_spelt;
 use itoa::Buffer;
@@ -38,7 +38,7 @@ fn print_sealed(alloc: Global, end: &TrailEnd, line: &TrailLine) -> Result<Vec<u
     match line {
         TrailLine::Told(telling) => print_told(alloc, end.count + 1, telling),
         TrailLine::Void { at } => print_void(alloc, end.count, at),
-        TrailLine::Undone(undoing) => print_undone(alloc, undoing),
+        TrailLine::Remark(remark) => print_remark(alloc, remark),
     }
 }
 
@@ -67,16 +67,18 @@ fn print_void(alloc: Global, number: u32, at: &String) -> Result<Vec<u8>, AllocE
     Ok(text)
 }
 
-fn print_undone(alloc: Global, undoing: &Undoing) -> Result<Vec<u8>, AllocError>
-    ensures { IfOk result (λ text. text.items ≡ codes "{\"undone\":\"" ++ spelt (string_bytes undoing.now.task) ++ codes "\",\"entry\":"
-        ++ decimal undoing.now.entry ++ member (codes "by") (string_bytes undoing.now.by) ++ member (codes "at") (string_bytes undoing.now.at)) }
+fn print_remark(alloc: Global, remark: &Remark) -> Result<Vec<u8>, AllocError>
+    ensures { IfOk result (λ text. text.items ≡ codes "{\"" ++ word_of remark.now.about ++ codes "\":\"" ++ spelt (string_bytes remark.now.text) ++ codes "\",\"entry\":"
+        ++ decimal remark.now.entry ++ member (codes "by") (string_bytes remark.now.by) ++ member (codes "at") (string_bytes remark.now.at)) }
 {
-    let mut text = Vec::from_slice(alloc, b"{\"undone\":\"")?;
-    push_spelt(&mut text, undoing.task.as_bytes())?;
+    let mut text = Vec::from_slice(alloc, b"{\"")?;
+    text.extend_from_slice(remark.about.word())?;
+    text.extend_from_slice(b"\":\"")?;
+    push_spelt(&mut text, remark.text.as_bytes())?;
     text.extend_from_slice(b"\",\"entry\":")?;
-    push_number(&mut text, undoing.entry)?;
-    push_member(&mut text, b"by", &undoing.by)?;
-    push_member(&mut text, b"at", &undoing.at)?;
+    push_number(&mut text, remark.entry)?;
+    push_member(&mut text, b"by", &remark.by)?;
+    push_member(&mut text, b"at", &remark.at)?;
     Ok(text)
 }
 

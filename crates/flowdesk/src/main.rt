@@ -9,6 +9,7 @@ use flow_call::{NO_MEMORY, WORDS, format_called, is_folder};
 use flow_call_cases::{ask_case, dialogue, draw_case, is_case_command, make, verify, write_page};
 use flow_call_folders::{export, list};
 use flow_call_logs::{draw_log, log_file};
+use flow_call_move::move_case;
 use flow_call_policies::answer;
 use flow_call_texts::{draw_file, explain_file, lint_file};
 use std::alloc::AllocError;
@@ -80,6 +81,7 @@ fn called<
         "list" => list(rt, words),
         "export" => export(rt, words),
         "new" => make(rt, words),
+        "move" => move_case(rt, words),
         "page" => write_page(rt, words),
         "verify" => verify(rt, words),
         "open" => dialogue(rt, words, rt.reader(), at_terminal),

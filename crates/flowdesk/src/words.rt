@@ -2,6 +2,7 @@ use clap::Command;
 use flow_call_cases::{page_command, with_cases};
 use flow_call_folders::{export_command, list_command};
 use flow_call_logs::{log_command, with_columns};
+use flow_call_move::move_command;
 use flow_call_policies::{alone_command, staffed_command};
 use flow_call_texts::{drawing_arguments, explain_command, lint_command};
 use std::alloc::{AllocError, Global};
@@ -25,6 +26,7 @@ pub(crate) fn desk_command<'a>(alloc: Global) -> Result<Command<'a>, AllocError>
     let page = page_command(alloc)?;
     let list = list_command(alloc)?;
     let export = export_command(alloc)?;
+    let moving = move_command(alloc)?;
     let command = Command::new(alloc, "flowdesk")
         .version("1")
         .about("Shows workflows of flow, and drives cases by names")
@@ -37,6 +39,7 @@ pub(crate) fn desk_command<'a>(alloc: Global) -> Result<Command<'a>, AllocError>
         .subcommand(log)?
         .subcommand(page)?
         .subcommand(list)?
-        .subcommand(export)?;
+        .subcommand(export)?
+        .subcommand(moving)?;
     with_cases(alloc, command)
 }

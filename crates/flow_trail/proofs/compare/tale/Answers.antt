@@ -4,7 +4,7 @@ use Rattle.std.proofs.lemmas.List.{take_rest}
 use Rattle.flow_trail.specs.declared.line.TrailLine.TheVariants.{Told}
 use Rattle.flow_trail.specs.Lines.{said_of}
 use Rattle.flow_trail.specs.Due.{entered_of}
-use Rattle.flow_trail.proofs.DueLemmas.{line_there, drop-map, same_tale, void_tale, undone_tale}
+use Rattle.flow_trail.proofs.DueLemmas.{line_there, drop-map, same_tale, void_tale, remark_tale}
 use Rattle.flow_trail.proofs.compare.tale.Goals as goal
 
 pub returns-in-Told : goal.returns-in-Told
@@ -20,9 +20,9 @@ returns-in-Void c =
     let line = line_there said_of c.args.lines.now c.args.index c.index-lines-index.result c.requires.place c.index-lines-index.is in
     void_tale _ (map said_of (drop (c.args.index + 1) c.args.lines.now)) (string_bytes c.in-Void.at) (line ∙ ap (λ x. said_of x ∷ map said_of (drop (c.args.index + 1) c.args.lines.now)) c.in-Void.is)
 
-pub returns-in-Undone : goal.returns-in-Undone
-returns-in-Undone c =
+pub returns-in-Remark : goal.returns-in-Remark
+returns-in-Remark c =
     let line = line_there said_of c.args.lines.now c.args.index c.index-lines-index.result c.requires.place c.index-lines-index.is in
-    let u = c.in-Undone._undoing in
-    undone_tale _ (map said_of (drop (c.args.index + 1) c.args.lines.now)) (string_bytes u.task) u.entry (string_bytes u.by) (string_bytes u.at)
-    (line ∙ ap (λ x. said_of x ∷ map said_of (drop (c.args.index + 1) c.args.lines.now)) c.in-Undone.is)
+    let u = c.in-Remark._remark in
+    remark_tale _ (map said_of (drop (c.args.index + 1) c.args.lines.now)) u.about (string_bytes u.text) u.entry (string_bytes u.by) (string_bytes u.at)
+    (line ∙ ap (λ x. said_of x ∷ map said_of (drop (c.args.index + 1) c.args.lines.now)) c.in-Remark.is)

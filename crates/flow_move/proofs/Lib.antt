@@ -1,0 +1,5 @@
+pub mod LabelLemmas
+pub mod StepLemmas
+pub mod MoveLemmas
+pub mod RunLemmas
+pub mod RenameLemmas

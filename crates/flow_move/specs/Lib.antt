@@ -1,0 +1,4 @@
+pub mod Labels
+pub mod Moves
+pub mod Causes
+pub mod Found
