@@ -81,6 +81,7 @@ _flowdesk() {
         --form)
             local forms="svg mermaid dot"
             [[ ${COMP_WORDS[1]} == log ]] && forms="text csv json"
+            [[ ${COMP_WORDS[1]} == export ]] && forms="csv jsonl xes sql"
             mapfile -t COMPREPLY < <(compgen -W "$forms" -- "$word") && return
             ;;
         --state) mapfile -t COMPREPLY < <(compgen -W "open waiting finished stuck stuck_by_duties committed" -- "$word") && return ;;

@@ -259,9 +259,7 @@ fn write_log<R: Files<File = File> + AllocGlobal + Print + Eprint + Threads + Sy
 }
 
 /// Writes the event log of the cases that the words name, and gives the status.
-pub fn export<
-    R: Files<File = File> + AllocGlobal + Clone + Drop + Print + Eprint + Threads + Sync,
->(
+pub fn export<R: Files<File = File> + AllocGlobal + Clone + Drop + Print + Eprint + Threads + Sync>(
     rt: &R,
     words: &ArgMatches<'_>,
 ) -> u8 {

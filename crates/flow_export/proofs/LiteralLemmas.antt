@@ -1,7 +1,7 @@
 -- A literal of SQL is read back.
-use Rattle.std.proofs.Common.{◌≡◌, ℕ, ◌==◌, ◌⊎◌, inl, inr, Bool, true, false, List, [], ◌∷◌, ◌++◌, arith, refl, sym, ◌∙◌, ap, Option, None, Some, append_assoc}
+use Rattle.std.proofs.Common.{◌≡◌, ℕ, ◌==◌, ◌⊎◌, inl, inr, Bool, true, false, List, [], ◌∷◌, ◌++◌, arith, refl, ◌∙◌, ap, Option, Some, append_assoc}
 use Rattle.std.proofs.lemmas.Bool.Decides.{nat_tests}
-use Rattle.flow_export.specs.Literal.{literal_byte, quoted, kept, kept_byte, text_before, read_quoted, read_literal, literal_text, begins_with_quote, has_nul, LiteralsAreReadBack}
+use Rattle.flow_export.specs.Literal.{literal_byte, quoted, kept, kept_byte, text_before, read_quoted, literal_text, begins_with_quote, has_nul, LiteralsAreReadBack}
 
 either_way : (b : Bool) → (b ≡ true) ⊎ (b ≡ false)
 either_way true = inl refl

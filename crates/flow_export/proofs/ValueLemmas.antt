@@ -1,10 +1,10 @@
 -- The value of an attribute of XML is read back.
-use Rattle.std.proofs.Common.{◌≡◌, ℕ, ◌+◌, ◌<◌, ◌==◌, ◌⊎◌, inl, inr, Bool, true, false, List, [], ◌∷◌, ◌++◌, arith, refl, sym, ◌∙◌, ap, Option, None, Some, append_assoc}
+use Rattle.std.proofs.Common.{◌≡◌, ℕ, ◌+◌, ◌<◌, ◌==◌, ◌⊎◌, inl, inr, Bool, true, false, List, [], ◌∷◌, ◌++◌, arith, refl, ◌∙◌, ap, Option, Some}
 use Rattle.std.specs.Prelude.{nat_lt}
 use Rattle.std.proofs.lemmas.Bool.Decides.{nat_tests}
 use Rattle.flow_draw.specs.Escape.{in_svg}
 use Rattle.flow_page.specs.Reading.{before}
-use Rattle.flow_export.specs.Value.{is_space, is_barred, ends_noncharacter, sign_of, placed_byte, placed_from, has_place_from, value_byte, value_from, read_value, read_value_from, ValuesAreReadBack}
+use Rattle.flow_export.specs.Value.{is_barred, ends_noncharacter, sign_of, placed_byte, placed_from, has_place_from, value_byte, value_from, read_value, ValuesAreReadBack}
 
 either_way : (b : Bool) → (b ≡ true) ⊎ (b ≡ false)
 either_way true = inl refl

@@ -2,7 +2,6 @@
 use Rattle.std.specs.Prelude.{ℕ, List, [], ◌∷◌, ◌++◌, codes}
 use Rattle.std.specs.Fmt.{decimal}
 use Rattle.std.specs.Str.Lossy.{utf8_lossy}
-use Rattle.flow_draw.specs.Pieces.{joined}
 use Rattle.flow_export.specs.declared.sql_form.TheConstants.{INSERT_CASE, INSERT_EVENTS}
 use Rattle.flow_export.specs.Rows.{Row, kind_word, word_of}
 use Rattle.flow_export.specs.Literal.{literal_text}

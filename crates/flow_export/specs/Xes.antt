@@ -1,5 +1,5 @@
 -- An event log in XES, by IEEE 1849-2016: a trace is a case, an event a row.
-use Rattle.std.specs.Prelude.{◌≡◌, ℕ, ◌==◌, Bool, true, false, if◌then◌else◌, List, [], ◌∷◌, ◌++◌, codes}
+use Rattle.std.specs.Prelude.{ℕ, Bool, true, false, if◌then◌else◌, List, [], ◌∷◌, ◌++◌, codes}
 use Rattle.std.specs.Fmt.{decimal}
 use Rattle.std.specs.Str.Lossy.{utf8_lossy}
 use Rattle.flow_draw.specs.Pieces.{joined}
