@@ -27,6 +27,8 @@ use std::time::{Clock, Duration};
 struct NewTexts {
     workflow: Vec<u8>,
     policy: Option<Vec<u8>>,
+    /// How many lines of its file stand before the policy.
+    before: usize,
 }
 
 impl NewTexts {
@@ -88,15 +90,20 @@ fn new_policy<R: Files<File = File> + AllocGlobal + Eprint>(
     old: Option<&[u8]>,
 ) -> Result<Option<Vec<u8>>, u8> {
     match (file, old) {
-        (Some(file), _) => {
-            let text = read_text(rt, file)?;
-            let policy = copied(rt.alloc(), without_divider(&text));
-            drop(text);
-            Ok(Some(policy?))
-        }
+        (Some(file), _) => Ok(Some(read_text(rt, file)?)),
         (None, Some(old)) => Ok(Some(copied(rt.alloc(), old)?)),
         (None, None) => Ok(None),
     }
+}
+
+/// The policy without its first line, where that is `%%`, and how many lines were left out.
+fn undivided(alloc: Global, text: Vec<u8>) -> Result<(Vec<u8>, usize), u8> {
+    if without_divider(&text).len() == text.len() {
+        return Ok((text, 0));
+    }
+    let policy = copied(alloc, without_divider(&text));
+    drop(text);
+    Ok((policy?, 1))
 }
 
 /// The new texts: those of the words, and for the rest those of the case.
@@ -105,13 +112,31 @@ fn new_texts<'x, R: Files<File = File> + AllocGlobal + Eprint>(
     call: &Call<'_>,
     book: &FileCase<'x, R>,
 ) -> Result<NewTexts, u8> {
-    let workflow = new_workflow(rt, call.workflow, book.workflow_text())?;
-    match new_policy(rt, call.policy, book.policy_text()) {
-        Ok(policy) => Ok(NewTexts { workflow, policy }),
+    let policy = match new_policy(rt, call.policy, book.policy_text())? {
+        Some(text) => Some(undivided(rt.alloc(), text)?),
+        None => None,
+    };
+    match new_workflow(rt, call.workflow, book.workflow_text()) {
+        Ok(workflow) => Ok(texts_of(workflow, policy)),
         Err(status) => {
-            drop(workflow);
+            drop(policy);
             Err(status)
         }
+    }
+}
+
+fn texts_of(workflow: Vec<u8>, policy: Option<(Vec<u8>, usize)>) -> NewTexts {
+    match policy {
+        Some((policy, before)) => NewTexts {
+            workflow,
+            policy: Some(policy),
+            before,
+        },
+        None => NewTexts {
+            workflow,
+            policy: None,
+            before: 0,
+        },
     }
 }
 
@@ -137,7 +162,13 @@ fn say_no_case(
             if call.policy.is_none() {
                 let _ = eprintln!(rt; "{}: --policy FILE gives a new policy", call.case);
             }
-            say_policy(rt, call.policy.unwrap_or("policy"), 0, policy, &refusal)
+            say_policy(
+                rt,
+                call.policy.unwrap_or("policy"),
+                texts.before,
+                policy,
+                &refusal,
+            )
         }
         (stop, _) => say_stop(rt, call.workflow.unwrap_or(call.case), stop),
     }

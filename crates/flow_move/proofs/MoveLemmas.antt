@@ -1,10 +1,9 @@
 -- An entry that is made, or has no place, by what was found of its leaves.
-use Rattle.std.proofs.Common.{◌≡◌, ◌≤◌, ◌<◌, ℕ, ◌+◌, List, [], ◌∷◌, ◌++◌, Some, length, take, slice_get, refl, sym, ap, subst, ◌∙◌, get_or, arith, append-nil, append_assoc}
+use Rattle.std.proofs.Common.{◌≡◌, ◌<◌, ℕ, ◌+◌, List, [], ◌∷◌, ◌++◌, Some, length, take, slice_get, refl, sym, ap, subst, ◌∙◌, get_or, append_assoc}
 use Rattle.std.proofs.lemmas.List.{take_more}
 use Rattle.std.proofs.lemmas.Option.{same_Some, slice_get_within}
 use Rattle.flow_model.specs.declared.history.Entry.{Entry}
 use Rattle.flow_model.specs.declared.history.Step.{Step}
-use Rattle.flow_workflow.specs.Definition.{Definition}
 use Rattle.flow_core.specs.Run.{Run}
 use Rattle.flow_case.specs.declared.case_run.CaseRun.{CaseRun}
 use Rattle.flow_case.specs.declared.case_run.CaseRun.TheVariants.{Free, UnderPolicy}
@@ -14,10 +13,10 @@ use Rattle.flow_move.specs.declared.new_names.NewNames.{NewNames}
 use Rattle.flow_move.specs.declared.unmoved.Cause.{Cause}
 use Rattle.flow_move.specs.declared.unmoved.Cause.TheVariants.{NoUser, NoName, NotNow, Forbidden}
 use Rattle.flow_move.specs.Labels.{labels_in}
-use Rattle.flow_move.specs.Moves.{IsCaller, IsStepAs, definition_of, MayMove, Moves, AreMoved, on_leaf, leaf_in}
+use Rattle.flow_move.specs.Moves.{IsCaller, definition_of, MayMove, Moves, AreMoved, on_leaf, leaf_in}
 use Rattle.flow_move.specs.Causes.{IsLetByRun, IsCause, IsUnmoved, IsCauseOn, IsCauseOf}
 use Rattle.flow_move.specs.Found.{MayOn, HasLeaf}
-use Rattle.flow_move.proofs.StepLemmas.{IsOnSome, step_on, as_on, plain_as, as_plain}
+use Rattle.flow_move.proofs.StepLemmas.{step_on, as_on, plain_as, as_plain}
 
 -- one number of a user stands for one in the new case
 one_caller : (names : NewNames) (old by other : ℕ) → IsCaller names old by → IsCaller names old other → other ≡ by

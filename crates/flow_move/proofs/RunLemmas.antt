@@ -1,5 +1,5 @@
 -- What a run could make.
-use Rattle.std.proofs.Common.{◌≡◌, ℕ, [], subst, sym}
+use Rattle.std.proofs.Common.{◌≡◌, ℕ, [], subst}
 use Rattle.flow_model.specs.declared.history.Step.TheVariants.{Rewound, Committed}
 use Rattle.flow_model.specs.Schema.{IsGood}
 use Rattle.flow_model.specs.Run.{current_claims, IsCurrent, IsOpen, IsOpenIndex}
