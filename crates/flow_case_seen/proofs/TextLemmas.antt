@@ -10,7 +10,7 @@ use Rattle.flow_case.specs.declared.case_run.CaseRun.{CaseRun}
 use Rattle.flow_case_begin.specs.Begun.{IsBegun}
 use Rattle.flow_case_begin.specs.declared.stop.CaseStop.{CaseStop}
 use Rattle.flow_case_begin.specs.Stops.{IsNoCaseOf}
-use Rattle.flow_case_seen.specs.Texts.{Shared, AreRead}
+use Rattle.flow_case_seen.specs.Texts.{AreRead}
 
 pub are_read : (workflow : List ℕ) (given policy : Option (List ℕ)) (users : Option (List (List ℕ))) (s : Said) (start : TrailEnd) (begun : CaseRun) →
     given ≡ policy → Says workflow s → IsClosed s → IsBegun s given begun → start ≡ first_end workflow (unwrap_or given []) →

@@ -11,7 +11,7 @@ returns-in-Some c =
     let same : Some c.in-Some.policy.now ≡ c.args.texts.now.policy = sym (ap (option_map bytes_now) c.in-Some.is) ∙ c.policy.ensures in
     if_ok c.governed.result _ _
     (λ x (begun, begins, is). ruled_case (said c.script-script.result.now) c.args.texts.now.workflow c.in-Some.policy.now c.args.entries.items c.args.texts.now.policy
-        c.in_ok-core.core.history begun x same c.script-script.ensures.says begins is c.in_ok-core.ensures.history)
+    c.in_ok-core.core.history begun x same c.script-script.ensures.says begins is c.in_ok-core.ensures.history)
     c.governed.ensures
 
 pub returns-in-None : goal.returns-in-None

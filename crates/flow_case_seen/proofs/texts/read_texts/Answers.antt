@@ -1,7 +1,5 @@
-use Rattle.std.proofs.Common.{rules, ◌≡◌}
 use Rattle.std.specs.Option.{option_map}
 use Rattle.flow_text.specs.Parser.{bytes_now}
-use Rattle.flow_case_begin.specs.Stops.{IsNoCaseOf}
 use Rattle.flow_case_seen.specs.Texts.{bytes_in}
 use Rattle.flow_case_seen.proofs.TextLemmas.{none_read}
 use Rattle.flow_case_seen.proofs.texts.read_texts.Goals as goal
