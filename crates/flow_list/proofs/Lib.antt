@@ -1,3 +1,4 @@
 pub mod ListSteps
 pub mod OutLemmas
 pub mod PlaceLemmas
+pub mod RunLemmas
