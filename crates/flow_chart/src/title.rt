@@ -1,0 +1,65 @@
+//! The title of a chart.
+
+ghost use Rattle.std.specs.Prelude.{◌≡◌, ◌++◌, OnOk};
+ghost use Rattle.flow_chart.specs.Title.{front_text, cluster_text, chart_head, title_foot};
+
+use crate::words::head_words;
+use flow_draw::{Format, Piece, push_pieces, push_quoted};
+use std::alloc::AllocError;
+
+/// Adds how a chart begins.
+pub(crate) fn push_head(text: &mut Vec<u8>, format: Format, title: &[u8]) -> Result<(), AllocError>
+    ensures { OnOk result (text.new.items ≡ text.old.items ++ chart_head format title.now) }
+{
+    if title.is_empty() {
+        return text.extend_from_slice(head_words(format));
+    }
+    match format {
+        Format::Mermaid => {
+            push_front(text, title)?;
+            text.extend_from_slice(head_words(format))
+        }
+        _ => {
+            text.extend_from_slice(head_words(format))?;
+            push_cluster(text, title)
+        }
+    }
+}
+
+/// Adds the title in front of a flowchart.
+#[tactic(auto, unfolding(crate::specs::Title::front_text))]
+fn push_front(text: &mut Vec<u8>, title: &[u8]) -> Result<(), AllocError>
+    ensures { OnOk result (text.new.items ≡ text.old.items ++ front_text title.now) }
+{
+    text.extend_from_slice(b"---\ntitle: \"")?;
+    push_quoted(text, title)?;
+    text.extend_from_slice(b"\"\n---\n")
+}
+
+/// Adds the head of a cluster that has the title.
+#[tactic(auto, unfolding(crate::specs::Title::cluster_text))]
+fn push_cluster(text: &mut Vec<u8>, title: &[u8]) -> Result<(), AllocError>
+    ensures { OnOk result (text.new.items ≡ text.old.items ++ cluster_text title.now) }
+{
+    push_pieces(
+        text,
+        &[
+            Piece::Words(b"subgraph cluster_title {\nlabelloc=t;\ncolor=transparent;\nlabel=\""),
+            Piece::Escaped(Format::Dot, title),
+            Piece::Words(b"\";\n"),
+        ],
+    )
+}
+
+/// What stands behind all parts of a chart.
+pub(crate) fn title_foot(format: Format, title: &[u8]) -> &'static [u8]
+    ensures { result.now ≡ title_foot format title.now }
+{
+    if title.is_empty() {
+        return b"";
+    }
+    match format {
+        Format::Mermaid => b"",
+        _ => b"}\n",
+    }
+}

@@ -1,0 +1,36 @@
+-- The rows of a picture that is folded. It is drawn once, 16 pixels to the right, and each row shows a part of it.
+use Rattle.std.specs.Prelude.{ℕ, ◌+◌, ◌-◌, ◌*◌, max, List, [], ◌∷◌, ◌++◌, length, codes}
+use Rattle.std.specs.Fmt.{decimal}
+use Rattle.flow_draw.specs.Pieces.{joined}
+
+-- so much of it from the left, in a row at a height
+unfoldable pub row_text : ℕ → ℕ → ℕ → ℕ → List ℕ
+row_text y high start wide = joined (
+    codes "<svg x=\"-16\" y=\"" ∷ decimal y ∷ codes "\" width=\"" ∷ decimal wide ∷ codes "\" height=\"" ∷ decimal high
+    ∷ codes "\" viewBox=\"" ∷ decimal start ∷ codes " 0 " ∷ decimal wide ∷ codes " " ∷ decimal high
+    ∷ codes "\"><use href=\"#picture\"/></svg>\n" ∷ [])
+
+-- the rows that end at these places, one under another from a height on
+abbrev pub rows_text : ℕ → ℕ → ℕ → List ℕ → List ℕ
+rows_text y high start [] = []
+rows_text y high start (cut ∷ cuts) = row_text y high start (cut - start) ++ rows_text (y + high) high cut cuts
+
+-- how wide the widest is
+abbrev pub widest : ℕ → List ℕ → ℕ
+widest start [] = 0
+widest start (cut ∷ cuts) = max (cut - start) (widest cut cuts)
+
+-- a drawing, as it is or in rows of that height
+abbrev pub folded_text : ℕ → List ℕ → List ℕ → List ℕ
+folded_text high drawing [] = drawing
+folded_text high drawing (cut ∷ cuts) =
+    codes "<defs>\n<g id=\"picture\" transform=\"translate(16 0)\">\n" ++ drawing ++ codes "</g>\n</defs>\n" ++ rows_text 0 high 0 (cut ∷ cuts)
+
+abbrev pub folded_bottom : ℕ → List ℕ → ℕ
+folded_bottom high [] = high
+folded_bottom high (cut ∷ cuts) = high * length (cut ∷ cuts)
+
+-- how wide it is without what lies around it
+abbrev pub folded_width : ℕ → List ℕ → ℕ
+folded_width width [] = width
+folded_width width (cut ∷ cuts) = widest 0 (cut ∷ cuts) - 32
