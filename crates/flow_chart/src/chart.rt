@@ -36,7 +36,16 @@ pub fn print_mermaid(
 ) -> Result<Vec<u8>, AllocError>
     ensures { IfOk result (λ text. text.items ≡ chart_text Mermaid title.now (sketch_of scene.now) arrows.now labels.now marks.now rules.now) }
 {
-    print_chart(alloc, Format::Mermaid, title, scene, arrows, labels, marks, rules)
+    print_chart(
+        alloc,
+        Format::Mermaid,
+        title,
+        scene,
+        arrows,
+        labels,
+        marks,
+        rules,
+    )
 }
 
 /// Prints a picture's parts as a graph of Graphviz, under a title where that is not empty.
@@ -51,7 +60,16 @@ pub fn print_dot(
 ) -> Result<Vec<u8>, AllocError>
     ensures { IfOk result (λ text. text.items ≡ chart_text Dot title.now (sketch_of scene.now) arrows.now labels.now marks.now rules.now) }
 {
-    print_chart(alloc, Format::Dot, title, scene, arrows, labels, marks, rules)
+    print_chart(
+        alloc,
+        Format::Dot,
+        title,
+        scene,
+        arrows,
+        labels,
+        marks,
+        rules,
+    )
 }
 
 fn print_chart(
