@@ -1,5 +1,5 @@
 -- The rows of a picture that is folded. It is drawn once, 16 pixels to the right, and each row shows a part of it.
-use Rattle.std.specs.Prelude.{ℕ, ◌+◌, ◌-◌, ◌*◌, max, List, [], ◌∷◌, ◌++◌, length, codes}
+use Rattle.std.specs.Prelude.{ℕ, ◌+◌, ◌-◌, max, List, [], ◌∷◌, ◌++◌, codes}
 use Rattle.std.specs.Fmt.{decimal}
 use Rattle.flow_draw.specs.Pieces.{joined}
 
@@ -15,10 +15,15 @@ abbrev pub rows_text : ℕ → ℕ → ℕ → List ℕ → List ℕ
 rows_text y high start [] = []
 rows_text y high start (cut ∷ cuts) = row_text y high start (cut - start) ++ rows_text (y + high) high cut cuts
 
--- how wide the widest is
-abbrev pub widest : ℕ → List ℕ → ℕ
-widest start [] = 0
-widest start (cut ∷ cuts) = max (cut - start) (widest cut cuts)
+-- the height behind them
+abbrev pub rows_end : ℕ → ℕ → List ℕ → ℕ
+rows_end y high [] = y
+rows_end y high (cut ∷ cuts) = rows_end (y + high) high cuts
+
+-- how wide the widest is, where one above is so wide
+abbrev pub widest : ℕ → ℕ → List ℕ → ℕ
+widest width start [] = width
+widest width start (cut ∷ cuts) = widest (max width (cut - start)) cut cuts
 
 -- a drawing, as it is or in rows of that height
 abbrev pub folded_text : ℕ → List ℕ → List ℕ → List ℕ
@@ -28,9 +33,9 @@ folded_text high drawing (cut ∷ cuts) =
 
 abbrev pub folded_bottom : ℕ → List ℕ → ℕ
 folded_bottom high [] = high
-folded_bottom high (cut ∷ cuts) = high * length (cut ∷ cuts)
+folded_bottom high (cut ∷ cuts) = rows_end 0 high (cut ∷ cuts)
 
 -- how wide it is without what lies around it
 abbrev pub folded_width : ℕ → List ℕ → ℕ
 folded_width width [] = width
-folded_width width (cut ∷ cuts) = widest 0 (cut ∷ cuts) - 32
+folded_width width (cut ∷ cuts) = widest 0 0 (cut ∷ cuts) - 32

@@ -1,7 +1,7 @@
 //! The rows of a picture that is folded.
 
-ghost use Rattle.std.specs.Prelude.{◌≡◌, ◌+◌, ◌++◌, ◌*◌, length, IfOk, OnOk};
-ghost use Rattle.flow_svg.specs.Rows.{row_text, rows_text, widest, folded_text, folded_bottom, folded_width};
+ghost use Rattle.std.specs.Prelude.{◌≡◌, ◌+◌, ◌++◌, IfOk, OnOk};
+ghost use Rattle.flow_svg.specs.Rows.{row_text, rows_text, rows_end, widest, folded_text, folded_bottom, folded_width};
 
 use flow_draw::{Piece, below, push_pieces};
 use std::alloc::AllocError;
@@ -34,7 +34,7 @@ fn push_row(text: &mut Vec<u8>, y: u64, high: u64, start: u64, wide: u64) -> Res
 /// Adds the rows that end at these places, and gives the height behind them.
 fn push_rows(text: &mut Vec<u8>, high: u64, cuts: &[u64]) -> Result<u64, AllocError>
     ensures rows { OnOk result (text.new.items ≡ text.old.items ++ rows_text 0 high 0 cuts.now) }
-    ensures bottom { IfOk result (λ y. y ≡ high * length cuts.now) }
+    ensures bottom { IfOk result (λ y. y ≡ rows_end 0 high cuts.now) }
 {
     let mut y = 0;
     let mut start = 0;
@@ -48,7 +48,7 @@ fn push_rows(text: &mut Vec<u8>, high: u64, cuts: &[u64]) -> Result<u64, AllocEr
 
 /// How wide the widest row is.
 fn widest(cuts: &[u64]) -> u64
-    ensures { result ≡ widest 0 cuts.now }
+    ensures { result ≡ widest 0 0 cuts.now }
 {
     let mut width = 0;
     let mut start = 0;
