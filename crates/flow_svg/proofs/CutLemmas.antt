@@ -87,11 +87,11 @@ far_end ss width end start cut room behind narrow clear last =
     inr (room, inl (record { behind = behind; narrow = narrow; clear = clear behind; last = last }))
 
 -- a row that ends at the nearest one, or at the end
-pub near_end : (ss : List Span) (width end start back cut : ℕ) → start + width < end → start ≤ back → ¬ (start < back) →
+pub near_end : (ss : List Span) (width end start back cut : ℕ) → start + width < end → start ≤ back → back ≤ start →
     ((x : ℕ) → back < x → x ≤ start + width → ¬ (IsClear ss x)) → start + width + 1 ≤ cut → cut ≤ end → (cut ≡ end) ⊎ IsClear ss cut →
     ((x : ℕ) → start + width + 1 ≤ x → x < cut → ¬ (IsClear ss x)) → IsRowEnd ss width end start cut
 near_end ss width end start back cut room from none last beyond within clear first =
-    let same : back ≡ start = grind (arith, common_steps) in
+    let same : back ≡ start = omega (arith, from, none) in
     inr (
       room,
       inr (record {
@@ -114,8 +114,8 @@ more_rows ss width end start cut cuts new below is so grown rest are =
     (so (cut ∷ rest) (below, is, are))
 
 -- no row more
-pub all_rows : (ss : List Span) (width end start : ℕ) (cuts : List ℕ) → start ≤ end → ¬ (start < end) →
+pub all_rows : (ss : List Span) (width end start : ℕ) (cuts : List ℕ) → start ≤ end → end ≤ start →
     ((rest : List ℕ) → AreCuts ss width end start rest → AreCuts ss width end 0 (cuts ++ rest)) → AreCuts ss width end 0 cuts
 all_rows ss width end start cuts within none so =
-    let same : start ≡ end = grind (arith, common_steps) in
+    let same : start ≡ end = omega (arith, within, none) in
     subst (λ (l : List ℕ). AreCuts ss width end 0 l) (append-nil cuts) (so [] same)

@@ -25,11 +25,15 @@ abbrev pub widest : ℕ → ℕ → List ℕ → ℕ
 widest width start [] = width
 widest width start (cut ∷ cuts) = widest (max width (cut - start)) cut cuts
 
--- a drawing, as it is or in rows of that height
+-- a drawing that is not seen by itself, and the rows of that height that show parts of it
+unfoldable pub shown_in_rows : ℕ → List ℕ → List ℕ → List ℕ
+shown_in_rows high drawing cuts =
+    codes "<defs>\n<g id=\"picture\" transform=\"translate(16 0)\">\n" ++ drawing ++ codes "</g>\n</defs>\n" ++ rows_text 0 high 0 cuts
+
+-- a drawing, as it is or in rows
 abbrev pub folded_text : ℕ → List ℕ → List ℕ → List ℕ
 folded_text high drawing [] = drawing
-folded_text high drawing (cut ∷ cuts) =
-    codes "<defs>\n<g id=\"picture\" transform=\"translate(16 0)\">\n" ++ drawing ++ codes "</g>\n</defs>\n" ++ rows_text 0 high 0 (cut ∷ cuts)
+folded_text high drawing (cut ∷ cuts) = shown_in_rows high drawing (cut ∷ cuts)
 
 abbrev pub folded_bottom : ℕ → List ℕ → ℕ
 folded_bottom high [] = high

@@ -1,7 +1,7 @@
 //! The rows of a picture that is folded.
 
 ghost use Rattle.std.specs.Prelude.{◌≡◌, ◌+◌, ◌++◌, IfOk, OnOk};
-ghost use Rattle.flow_svg.specs.Rows.{row_text, rows_text, rows_end, widest, folded_text, folded_bottom, folded_width};
+ghost use Rattle.flow_svg.specs.Rows.{row_text, rows_text, rows_end, widest, shown_in_rows, folded_text, folded_bottom, folded_width};
 
 use flow_draw::{Piece, below, push_pieces};
 use std::alloc::AllocError;
@@ -59,6 +59,23 @@ fn widest(cuts: &[u64]) -> u64
     width
 }
 
+/// Adds a drawing of that height in rows, and gives the height behind them.
+#[tactic(auto, unfolding(crate::specs::Rows::shown_in_rows))]
+fn push_in_rows(
+    text: &mut Vec<u8>,
+    high: u64,
+    drawing: &[u8],
+    cuts: &[u64],
+) -> Result<u64, AllocError>
+    ensures text { OnOk result (text.new.items ≡ text.old.items ++ shown_in_rows high drawing.now cuts.now) }
+    ensures bottom { IfOk result (λ y. y ≡ rows_end 0 high cuts.now) }
+{
+    text.extend_from_slice(b"<defs>\n<g id=\"picture\" transform=\"translate(16 0)\">\n")?;
+    text.extend_from_slice(drawing)?;
+    text.extend_from_slice(b"</g>\n</defs>\n")?;
+    push_rows(text, high, cuts)
+}
+
 /// Adds a drawing of that height: as it is, or in the rows that end at these places. It gives how far down it reaches.
 pub(crate) fn push_folded(
     text: &mut Vec<u8>,
@@ -73,10 +90,7 @@ pub(crate) fn push_folded(
         text.extend_from_slice(drawing)?;
         return Ok(high);
     }
-    text.extend_from_slice(b"<defs>\n<g id=\"picture\" transform=\"translate(16 0)\">\n")?;
-    text.extend_from_slice(drawing)?;
-    text.extend_from_slice(b"</g>\n</defs>\n")?;
-    push_rows(text, high, cuts)
+    push_in_rows(text, high, drawing, cuts)
 }
 
 /// How wide a drawing is that is so wide as it is, in the rows that end at these places.
