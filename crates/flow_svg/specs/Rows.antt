@@ -25,10 +25,13 @@ abbrev pub widest : ℕ → ℕ → List ℕ → ℕ
 widest width start [] = width
 widest width start (cut ∷ cuts) = widest (max width (cut - start)) cut cuts
 
--- a drawing that is not seen by itself, and the rows of that height that show parts of it
+-- a drawing that is not seen by itself
+unfoldable pub unseen : List ℕ → List ℕ
+unseen drawing = codes "<defs>\n<g id=\"picture\" transform=\"translate(16 0)\">\n" ++ drawing ++ codes "</g>\n</defs>\n"
+
+-- such a drawing, and the rows of that height that show parts of it
 unfoldable pub shown_in_rows : ℕ → List ℕ → List ℕ → List ℕ
-shown_in_rows high drawing cuts =
-    codes "<defs>\n<g id=\"picture\" transform=\"translate(16 0)\">\n" ++ drawing ++ codes "</g>\n</defs>\n" ++ rows_text 0 high 0 cuts
+shown_in_rows high drawing cuts = unseen drawing ++ rows_text 0 high 0 cuts
 
 -- a drawing, as it is or in rows
 abbrev pub folded_text : ℕ → List ℕ → List ℕ → List ℕ

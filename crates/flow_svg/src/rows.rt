@@ -1,7 +1,7 @@
 //! The rows of a picture that is folded.
 
 ghost use Rattle.std.specs.Prelude.{◌≡◌, ◌+◌, ◌++◌, IfOk, OnOk};
-ghost use Rattle.flow_svg.specs.Rows.{row_text, rows_text, rows_end, widest, shown_in_rows, folded_text, folded_bottom, folded_width};
+ghost use Rattle.flow_svg.specs.Rows.{row_text, rows_text, rows_end, widest, unseen, shown_in_rows, folded_text, folded_bottom, folded_width};
 
 use flow_draw::{Piece, below, push_pieces};
 use std::alloc::AllocError;
@@ -59,6 +59,16 @@ fn widest(cuts: &[u64]) -> u64
     width
 }
 
+/// Adds a drawing that is not seen by itself.
+#[tactic(auto, unfolding(crate::specs::Rows::unseen))]
+fn push_unseen(text: &mut Vec<u8>, drawing: &[u8]) -> Result<(), AllocError>
+    ensures { OnOk result (text.new.items ≡ text.old.items ++ unseen drawing.now) }
+{
+    text.extend_from_slice(b"<defs>\n<g id=\"picture\" transform=\"translate(16 0)\">\n")?;
+    text.extend_from_slice(drawing)?;
+    text.extend_from_slice(b"</g>\n</defs>\n")
+}
+
 /// Adds a drawing of that height in rows, and gives the height behind them.
 #[tactic(auto, unfolding(crate::specs::Rows::shown_in_rows))]
 fn push_in_rows(
@@ -70,9 +80,7 @@ fn push_in_rows(
     ensures text { OnOk result (text.new.items ≡ text.old.items ++ shown_in_rows high drawing.now cuts.now) }
     ensures bottom { IfOk result (λ y. y ≡ rows_end 0 high cuts.now) }
 {
-    text.extend_from_slice(b"<defs>\n<g id=\"picture\" transform=\"translate(16 0)\">\n")?;
-    text.extend_from_slice(drawing)?;
-    text.extend_from_slice(b"</g>\n</defs>\n")?;
+    push_unseen(text, drawing)?;
     push_rows(text, high, cuts)
 }
 
