@@ -1,6 +1,7 @@
 -- The rows of a picture that is folded. It is drawn once, 16 pixels to the right, and each row shows a part of it.
 use Rattle.std.specs.Prelude.{ℕ, ◌+◌, ◌-◌, max, List, [], ◌∷◌, ◌++◌, codes}
 use Rattle.std.specs.Fmt.{decimal}
+use Rattle.flow_svg.specs.declared.rows.TheConstants.{UNSEEN, UNSEEN_END}
 use Rattle.flow_draw.specs.Pieces.{joined}
 
 -- so much of it from the left, in a row at a height
@@ -27,7 +28,7 @@ widest width start (cut ∷ cuts) = widest (max width (cut - start)) cut cuts
 
 -- a drawing that is not seen by itself
 unfoldable pub unseen : List ℕ → List ℕ
-unseen drawing = codes "<defs>\n<g id=\"picture\" transform=\"translate(16 0)\">\n" ++ drawing ++ codes "</g>\n</defs>\n"
+unseen drawing = UNSEEN.now ++ drawing ++ UNSEEN_END.now
 
 -- such a drawing, and the rows of that height that show parts of it
 unfoldable pub shown_in_rows : ℕ → List ℕ → List ℕ → List ℕ

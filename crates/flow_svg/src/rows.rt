@@ -6,6 +6,12 @@ ghost use Rattle.flow_svg.specs.Rows.{row_text, rows_text, rows_end, widest, uns
 use flow_draw::{Piece, below, push_pieces};
 use std::alloc::AllocError;
 
+/// What stands before a drawing that is not seen by itself.
+pub(crate) const UNSEEN: &[u8] = b"<defs>\n<g id=\"picture\" transform=\"translate(16 0)\">\n";
+
+/// What stands behind it.
+pub(crate) const UNSEEN_END: &[u8] = b"</g>\n</defs>\n";
+
 /// Adds a row at a height, that shows so much of the picture from a place on.
 #[tactic(auto, unfolding(crate::specs::Rows::row_text))]
 fn push_row(text: &mut Vec<u8>, y: u64, high: u64, start: u64, wide: u64) -> Result<(), AllocError>
@@ -64,9 +70,9 @@ fn widest(cuts: &[u64]) -> u64
 fn push_unseen(text: &mut Vec<u8>, drawing: &[u8]) -> Result<(), AllocError>
     ensures { OnOk result (text.new.items ≡ text.old.items ++ unseen drawing.now) }
 {
-    text.extend_from_slice(b"<defs>\n<g id=\"picture\" transform=\"translate(16 0)\">\n")?;
+    text.extend_from_slice(UNSEEN)?;
     text.extend_from_slice(drawing)?;
-    text.extend_from_slice(b"</g>\n</defs>\n")
+    text.extend_from_slice(UNSEEN_END)
 }
 
 /// Adds a drawing of that height in rows, and gives the height behind them.
