@@ -112,7 +112,7 @@ _flowdesk() {
     elif [[ $word == -* && ${COMP_WORDS[1]} == log ]]; then
         mapfile -t COMPREPLY < <(compgen -W "$(_flow_unused --workflow --case --activity --time --map --form --journals --jobs --budget)" -- "$word")
     elif [[ $word == -* ]]; then
-        mapfile -t COMPREPLY < <(compgen -W "$(_flow_unused --journal --log --case --activity --time --map --form)" -- "$word")
+        mapfile -t COMPREPLY < <(compgen -W "$(_flow_unused --journal --log --case --activity --time --map --form --title --fold --who)" -- "$word")
     else
         _flow_files "$word"
     fi

@@ -11,7 +11,7 @@ mod whole;
 mod words;
 
 pub use asked::{AskerWords, FileCase, ask_case, asker_in, opened, say_begin, wait_in};
-pub use drawn::draw_case;
+pub use drawn::{case_report, draw_case};
 pub use faults::{say_folder, say_policy, say_stop};
 pub use made::{make, without_divider};
 pub use paged::{page_command, write_page};

@@ -57,7 +57,10 @@ pub fn case_page<B: Book>(
 }
 
 /// Who made each entry, and when.
-fn tellings_of<'a, B: Book>(alloc: Global, book: &'a B) -> Result<Vec<Told<'a>>, AllocError> {
+pub(crate) fn tellings_of<'a, B: Book>(
+    alloc: Global,
+    book: &'a B,
+) -> Result<Vec<Told<'a>>, AllocError> {
     let mut tellings = Vec::new(alloc);
     for place in 0..book.core().history().len() {
         let told = match book.told(place) {

@@ -72,13 +72,13 @@ fn standing_words(standing: Standing) -> &'static [u8] {
 
 /// A leaf, and the place of the entry that put it on the journal or gave the claim on it.
 #[derive(Clone, Copy)]
-struct Place {
+pub(crate) struct Place {
     leaf: u32,
     entry: usize,
 }
 
 /// The entries that the leaves stand by which are done or out.
-fn places_of(alloc: Global, core: &Core) -> Result<Vec<Place>, AllocError> {
+pub(crate) fn places_of(alloc: Global, core: &Core) -> Result<Vec<Place>, AllocError> {
     let mut places = Vec::new(alloc);
     push_done(&mut places, &doings(alloc, core)?)?;
     for out in claims_out(alloc, core)?.iter() {
@@ -100,7 +100,7 @@ fn push_done(places: &mut Vec<Place>, done: &[Doing]) -> Result<(), AllocError> 
     Ok(())
 }
 
-fn place_of(places: &[Place], leaf: u32) -> Option<usize> {
+pub(crate) fn place_of(places: &[Place], leaf: u32) -> Option<usize> {
     for place in places {
         if place.leaf == leaf {
             return Some(place.entry);
