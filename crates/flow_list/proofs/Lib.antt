@@ -1,3 +1,4 @@
+pub mod FileLemmas
 pub mod ListSteps
 pub mod OutLemmas
 pub mod PlaceLemmas

@@ -1,7 +1,7 @@
 -- The entry that gave a claim, looked for from the first on.
-use Rattle.std.proofs.Common.{◌≡◌, ◌<◌, ◌≤◌, ◌+◌, ◌∙◌, ◌⊎◌, ℕ, List, length, None, Some, Option, get_or, slice_get, MatchOption, Bor, inl, inr, refl, sym, ap, subst, arith}
+use Rattle.std.proofs.Common.{◌≡◌, ◌<◌, ◌≤◌, ◌+◌, ◌∙◌, ℕ, List, length, None, Some, Option, get_or, slice_get, MatchOption, Bor, inl, inr, sym, ap, subst, arith}
 use Rattle.std.proofs.lemmas.Bool.{cases_order}
-use Rattle.std.proofs.lemmas.Option.{slice_get_within, slice_get_read}
+use Rattle.std.proofs.lemmas.Option.{slice_get_within, slice_get-get_or}
 use Rattle.flow_model.specs.declared.history.Entry.{Entry}
 use Rattle.flow_model.specs.declared.history.Step.{Step}
 use Rattle.flow_model.specs.declared.history.Step.TheVariants.{Took}
@@ -44,20 +44,20 @@ one_place_more P bound none last place within has = elim (cases_order place boun
 ]
 
 -- the next entry gave it not
-pub not_gave : (history : List Entry) (claim k : ℕ) (entry : Entry) → k < length history → entry ≡ get_or history k entry → NoneBefore (GaveAt history claim) k →
+pub not_gave : (history : List Entry) (claim k : ℕ) (d entry : Entry) → k < length history → entry ≡ get_or history k d → NoneBefore (GaveAt history claim) k →
     ¬ ((leaf : ℕ) × (entry.step ≡ Took claim leaf)) → NoneBefore (GaveAt history claim) (k + 1)
-not_gave history claim k entry within is none not =
-    one_place_more (GaveAt history claim) k none (λ gave. not (given_here history claim k entry (slice_get_read history _ k entry refl within is) gave))
+not_gave history claim k d entry within is none not =
+    one_place_more (GaveAt history claim) k none (λ gave. not (given_here history claim k entry (slice_get-get_or history k d within ∙ ap Some (sym is)) gave))
 
 -- the next entry gave it: what is told of that entry
-pub told_first : (history : List Entry) (told : List Teller) (claim k : ℕ) (entry : Entry) (result : Option (Bor Teller)) → k < length history → entry ≡ get_or history k entry →
+pub told_first : (history : List Entry) (told : List Teller) (claim k : ℕ) (d entry : Entry) (result : Option (Bor Teller)) → k < length history → entry ≡ get_or history k d →
     NoneBefore (GaveAt history claim) k → (leaf : ℕ) × (entry.step ≡ Took claim leaf) →
     MatchOption result (slice_get told k ≡ None) (λ teller. slice_get told k ≡ Some teller.now) →
     MatchOption result ((place : ℕ) → GaveAt history claim place → slice_get told place ≡ None)
     (λ teller. (place : ℕ) × GaveAt history claim place × (slice_get told place ≡ Some teller.now))
-told_first history told claim k entry None within is none gave found = none_told history told claim k none found
-told_first history told claim k entry (Some teller) within is none gave found =
-    (k, gave_here history claim k entry (slice_get_read history _ k entry refl within is) gave, found)
+told_first history told claim k d entry None within is none gave found = none_told history told claim k none found
+told_first history told claim k d entry (Some teller) within is none gave found =
+    (k, gave_here history claim k entry (slice_get-get_or history k d within ∙ ap Some (sym is)) gave, found)
 
 -- no entry gave it, so nothing is told of one that did
 pub none_told_at_all : (history : List Entry) (told : List Teller) (claim bound : ℕ) → length history ≤ bound → NoneBefore (GaveAt history claim) bound →

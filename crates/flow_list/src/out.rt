@@ -45,7 +45,6 @@ fn gave(step: Step, claim: u32) -> bool
 }
 
 /// Who took the claim, and when, as the trail tells the entry that gave it.
-#[tactic(auto, using(crate::proofs::OutLemmas::told_first, crate::proofs::OutLemmas::not_gave, crate::proofs::OutLemmas::none_told_at_all))]
 fn taking<'a>(history: &[Entry], tellers: &'a [Teller], claim: u32) -> Option<&'a Teller>
     ensures { MatchOption result ((place : ℕ) → GaveAt history.now claim place → slice_get tellers.now place ≡ None)
         (λ teller. (place : ℕ) × GaveAt history.now claim place × (slice_get tellers.now place ≡ Some teller.now)) }
