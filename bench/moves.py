@@ -220,6 +220,7 @@ def killed(desk, count, chance):
         if told(case) != entries or desk.call("verify", case).returncode:
             desk.wrong("killed", how, told(case))
         if how == "as it was":
+            shutil.rmtree(desk.folder / "kill.moving", ignore_errors=True)
             again = desk.call("move", case, "--workflow", text, "--as", "ann")
             if again.returncode or (desk.folder / "kill.moving").exists():
                 desk.wrong("moved again", again)

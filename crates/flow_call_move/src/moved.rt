@@ -13,12 +13,13 @@ use flow_case::CaseRun;
 use flow_case_begin::{Begun, CaseStop, CaseTexts, begin};
 use flow_case_book::Asker;
 use flow_case_files::{
-    GREATEST_TEXT, finish_move, is_cut_off, make_moving, put_in_place, take_away,
+    GREATEST_TEXT, MOST_MOVES, finish_move, is_cut_off, make_moving, moving_folder, put_in_place,
+    take_away,
 };
 use flow_case_talk::Book;
 use flow_move::{Cause, NewNames, Rename, Unmoved, make_again};
 use std::alloc::{AllocError, Global};
-use std::fs::File;
+use std::fs::{self, File};
 use std::rt::{Env, Files};
 use std::time::{Clock, Duration};
 
@@ -220,7 +221,45 @@ fn fill<'x, R: Files<File = File> + Clock + AllocGlobal + Print + Eprint>(
     }
 }
 
-/// Moves the case, which has all entries under the new texts, and gives the status.
+/// Why the folder of a case cannot be put in the place of another.
+fn unmovable<R: Files<File = File> + AllocGlobal>(
+    rt: &R,
+    case: &str,
+) -> Result<Option<&'static str>, AllocError> {
+    match fs::symlink_metadata(rt, case) {
+        Ok(found) if found.is_dir() => {}
+        _ => return Ok(Some("it is a link: name the folder itself")),
+    }
+    if fs::symlink_metadata(rt, &format!(in rt.alloc(); "{case}/before-{MOST_MOVES}")?).is_ok() {
+        return Ok(Some("it was moved too often"));
+    }
+    if fs::symlink_metadata(rt, &moving_folder(rt.alloc(), case)?).is_ok() {
+        return Ok(Some(
+            "there is a folder of that name with .moving behind it: where a move was cut off, remove it",
+        ));
+    }
+    Ok(None)
+}
+
+/// Moves the case, which has all entries under the new texts, and gives the status. Nothing that is there is taken away.
+fn move_checked<'x, R: Files<File = File> + Clock + AllocGlobal + Print + Eprint>(
+    rt: &'x R,
+    call: &Call<'_>,
+    old: &FileCase<'x, R>,
+    texts: &NewTexts,
+    moved: There<'_>,
+) -> u8 {
+    match unmovable(rt, call.case) {
+        Ok(None) => move_made(rt, call, old, texts, moved),
+        Ok(Some(why)) => {
+            let _ = eprintln!(rt; "{}: {why}", call.case);
+            DISK
+        }
+        Err(AllocError) => NO_MEMORY,
+    }
+}
+
+/// Makes the folder of the moved case, puts it in the place of the old one, and gives the status.
 fn move_made<'x, R: Files<File = File> + Clock + AllocGlobal + Print + Eprint>(
     rt: &'x R,
     call: &Call<'_>,
@@ -261,7 +300,7 @@ fn move_named<'x, R: Files<File = File> + Clock + AllocGlobal + Print + Eprint>(
         names,
     };
     match made {
-        Ok(()) => move_made(rt, call, old, texts, there),
+        Ok(()) => move_checked(rt, call, old, texts, there),
         Err(Unmoved::Entry { place, cause }) => {
             say_unmoved(rt, old, there, place, cause, call.json)
         }
