@@ -195,7 +195,7 @@ CHANGES = [
         "A picture is data (`flow_view/src/picture.rt`) with places. A form without places is nodes and edges: `flow_chart`. One with "
         "places is a crate beside `flow_svg`.",
         "Which printer is called is decided in `flow_desk/src/depict.rt`. Its word stands in `flow_call_texts/src/drawn.rt` and is read in "
-        "`flow_call/src/words.rt`.",
+        "`flow_call/src/sheet.rt`.",
         "A mark says where a run stands at a leaf: `flow_desk/specs/Mark.antt` has their order. `bench/pictures.py` tries forms and marks.",
     ], [Thing("a form of picture", r"\b[Mm]ermaid\b|print_mermaid|in_mermaid", r"\b[Mm]ermaid\b"),
         Thing("a mark", r"\bClaimed\b|\bclaimed\b", r"\bclaimed\b", only={"flow_view", "flow_draw", "flow_svg", "flow_chart", "flow_desk"})]),
