@@ -2,6 +2,7 @@
 #![tactic(auto)]
 
 mod exported;
+mod library;
 mod listed;
 mod seen;
 
