@@ -10,7 +10,7 @@ mod spoken;
 mod whole;
 mod words;
 
-pub use asked::ask_case;
+pub use asked::{ask_case, stamp};
 pub use drawn::draw_case;
 pub use faults::{say_folder, say_policy, say_stop};
 pub use made::{make, without_divider};

@@ -2,8 +2,11 @@
 #![tactic(auto)]
 
 mod exported;
+mod lines;
 mod listed;
+mod paged;
 mod seen;
 
 pub use exported::{export, export_command};
 pub use listed::{list, list_command};
+pub use paged::{is_office, write_office};

@@ -1,5 +1,6 @@
 //! Many cases at a glance. Files are only read, and no lock is taken.
 
+use crate::lines::{Library, Unlisted, line_now, read_library, texts_for};
 use crate::seen::cases_in;
 use clap::builder::ValueParser;
 use clap::{ArgMatches, Command};
@@ -7,20 +8,17 @@ use flow_call::{
     MOST_JOBS, NO_MEMORY, REFUSED, USUAL_JOBS, WORDS, flag, number_in, option, required,
     say_unread, write_out,
 };
-use flow_case_begin::CaseStop;
-use flow_case_files::{ENTRIES, FolderFault, TRAIL, read_case};
-use flow_case_seen::{Cases, SharedTexts, all_lines, read_texts};
+use flow_case_seen::{Cases, all_lines};
 use flow_list::{
-    CaseLine, Filter, damaged_object, damaged_words, is_shown, line_object, line_of_files,
-    line_words, seconds_in, state_called,
+    CaseLine, Filter, damaged_object, damaged_words, is_shown, line_object, line_words,
+    seconds_in, state_called,
 };
-use flow_trail::first_seal;
 use jiff::Timestamp;
 use std::alloc::{AllocError, Global};
 use std::fs::{self, File};
 use std::rt::Files;
 use std::sync::atomic::{AtomicBool, Ordering};
-use std::thread::{Threads, for_each_mut};
+use std::thread::Threads;
 use std::time::Clock;
 
 /// How lines are written.
@@ -76,156 +74,6 @@ pub fn list_command<'a>(alloc: Global) -> Result<Command<'a>, AllocError> {
         .arg(json)
 }
 
-/// Why a case has no line.
-#[derive(Drop)]
-enum Unlisted {
-    Damaged(String),
-    NoMemory,
-}
-
-impl From<AllocError> for Unlisted {
-    fn from(_error: AllocError) -> Unlisted {
-        Unlisted::NoMemory
-    }
-}
-
-/// Why a folder is not read, in words.
-fn why_unread(alloc: Global, fault: &FolderFault) -> Unlisted {
-    let words = match fault {
-        FolderFault::NoCase(name) => {
-            format!(in alloc; "it is no case: there is no file {name} in it")
-        }
-        FolderFault::System(error) => format!(in alloc; "{error}"),
-        FolderFault::NoMemory => return Unlisted::NoMemory,
-        FolderFault::Exists | FolderFault::InUse => format!(in alloc; "it cannot be read"),
-    };
-    match words {
-        Ok(words) => Unlisted::Damaged(words),
-        Err(AllocError) => Unlisted::NoMemory,
-    }
-}
-
-/// Why files are no case's, in words.
-fn why_stopped(alloc: Global, stop: &CaseStop) -> Unlisted {
-    let words = match stop {
-        CaseStop::Workflow(_) => format!(in alloc; "the workflow is refused"),
-        CaseStop::Policy(refusal) => format!(in alloc; "the policy is refused: {refusal}"),
-        CaseStop::LongPolicy => format!(in alloc; "the policy has more than 1048576 bytes"),
-        CaseStop::Foreign(index) => {
-            format!(in alloc; "entry {index} of run.keep, from 0, is not legal in this workflow")
-        }
-        CaseStop::Trail(refusal) => format!(in alloc; "{refusal}"),
-        CaseStop::Disk => format!(in alloc; "run.keep has more entries than a case may have"),
-        CaseStop::NoMemory => return Unlisted::NoMemory,
-    };
-    match words {
-        Ok(words) => Unlisted::Damaged(words),
-        Err(AllocError) => Unlisted::NoMemory,
-    }
-}
-
-/// By what the trail of a case begins, which tells its texts from others; none where they are not read.
-fn seal_of<R: Files<File = File> + AllocGlobal>(rt: &R, case: &str) -> Option<[u8; 32]> {
-    match read_case(rt, case) {
-        Ok(texts) => match &texts.policy {
-            Some(policy) => Some(first_seal(&texts.workflow, policy)),
-            None => Some(first_seal(&texts.workflow, &[])),
-        },
-        Err(_) => None,
-    }
-}
-
-/// What is known of a case before its entries are read.
-#[derive(Clone, Copy)]
-struct Begun {
-    seal: Option<[u8; 32]>,
-}
-
-/// By what the trail of each case begins. Several threads read.
-fn seals_of<R: Files<File = File> + AllocGlobal + Threads + Sync>(
-    rt: &R,
-    cases: &[String],
-    jobs: u32,
-) -> Result<Vec<Begun>, AllocError> {
-    let mut begun = Vec::with_capacity(rt.alloc(), cases.len())?;
-    for _ in cases {
-        begun.push(Begun { seal: None })?;
-    }
-    for_each_mut(
-        rt,
-        &mut begun,
-        jobs.max(1) as usize,
-        &|place: usize, one: &mut Begun| {
-            if let Some(case) = cases.get(place) {
-                one.seal = seal_of(rt, case.as_str());
-            }
-        },
-    );
-    Ok(begun)
-}
-
-/// Texts that cases share, or why they are refused.
-type Read = Result<SharedTexts, CaseStop>;
-
-/// The texts of the cases, each read once.
-#[derive(Drop)]
-struct Library {
-    seals: Vec<[u8; 32]>,
-    texts: Vec<Read>,
-    /// For each case, the place of its texts, where they are read.
-    places: Vec<Option<usize>>,
-}
-
-/// Reads the texts of a case that stands for all that begin as it does.
-fn read_shared<R: Files<File = File> + AllocGlobal>(
-    rt: &R,
-    case: &str,
-) -> Result<Read, FolderFault> {
-    let texts = read_case(rt, case)?;
-    Ok(read_texts(rt.alloc(), texts.workflow, texts.policy))
-}
-
-/// The place of the texts with that seal. They are read where the seal is new; none where they are not read any more.
-fn place_of<R: Files<File = File> + AllocGlobal>(
-    rt: &R,
-    library: &mut Library,
-    case: &str,
-    seal: [u8; 32],
-) -> Result<Option<usize>, AllocError> {
-    if let Some(place) = library.seals.iter().position(|known| *known == seal) {
-        return Ok(Some(place));
-    }
-    match read_shared(rt, case) {
-        Ok(read) => {
-            library.seals.push(seal)?;
-            library.texts.push(read)?;
-            Ok(Some(library.texts.len() - 1))
-        }
-        Err(_) => Ok(None),
-    }
-}
-
-/// The texts of the cases, by what their trails begin.
-fn library_of<R: Files<File = File> + AllocGlobal>(
-    rt: &R,
-    cases: &[String],
-    begun: &[Begun],
-) -> Result<Library, AllocError> {
-    let mut library = Library {
-        seals: Vec::new(rt.alloc()),
-        texts: Vec::new(rt.alloc()),
-        places: Vec::new(rt.alloc()),
-    };
-    for (case, one) in cases.iter().zip(begun.iter()) {
-        let place = match one.seal {
-            Some(seal) => place_of(rt, &mut library, case.as_str(), seal)?,
-            None => None,
-        };
-        library.places.push(place)?;
-    }
-    Ok(library)
-}
-
 /// The cases of a folder, and which of their lines are shown.
 #[derive(Drop)]
 struct Office<'a, R> {
@@ -249,55 +97,11 @@ fn second_of(line: &CaseLine) -> Option<u64> {
     }
 }
 
-/// A file of a case, as it is now.
-fn read_file<R: Files<File = File> + AllocGlobal>(
-    rt: &R,
-    case: &str,
-    name: &str,
-) -> Result<Vec<u8>, Unlisted> {
-    let alloc = rt.alloc();
-    let path = format!(in alloc; "{case}/{name}")?;
-    match fs::read(rt, path.as_str()) {
-        Ok(bytes) => Ok(bytes),
-        Err(error) => Err(why_unread(alloc, &FolderFault::System(error))),
-    }
-}
-
-/// Why the texts of a case are not read.
-fn why_none<R: Files<File = File> + AllocGlobal>(rt: &R, case: &str) -> Unlisted {
-    match read_case(rt, case) {
-        Ok(_) => why_unread(rt.alloc(), &FolderFault::InUse),
-        Err(fault) => why_unread(rt.alloc(), &fault),
-    }
-}
-
 impl<'a, R: Files<File = File> + AllocGlobal + Sync> Office<'a, R> {
-    /// The texts of the case at a place.
-    fn texts_at(&self, place: usize, case: &str) -> Result<&SharedTexts, Unlisted> {
-        match self.library.places.get(place) {
-            Some(Some(texts)) => match self.library.texts.get(*texts) {
-                Some(Ok(texts)) => Ok(texts),
-                Some(Err(stop)) => Err(why_stopped(self.rt.alloc(), stop)),
-                None => Err(why_none(self.rt, case)),
-            },
-            _ => Err(why_none(self.rt, case)),
-        }
-    }
-
-    /// The line of the case. Its entries are read before its trail, so that no entry is read whose line is not.
-    fn told(&self, case: &str, texts: &SharedTexts) -> Result<CaseLine, Unlisted> {
-        let entries = read_file(self.rt, case, ENTRIES)?;
-        let trail = read_file(self.rt, case, TRAIL)?;
-        match line_of_files(self.rt.alloc(), texts, entries, &trail) {
-            Ok(line) => Ok(line),
-            Err(stop) => Err(why_stopped(self.rt.alloc(), &stop)),
-        }
-    }
-
     /// The line of the case at a place as it is shown, or nothing where it is not.
     fn shown(&self, place: usize, case: &str) -> Result<Vec<u8>, Unlisted> {
-        let texts = self.texts_at(place, case)?;
-        let line = self.told(case, texts)?;
+        let texts = texts_for(self.rt, self.library, place, case)?;
+        let line = line_now(self.rt, texts, case)?;
         let alloc = self.rt.alloc();
         if !is_shown(self.filter, texts, &line, second_of(&line)) {
             return Ok(Vec::new(alloc));
@@ -410,8 +214,7 @@ fn lines_of<R: Files<File = File> + AllocGlobal + Threads + Sync>(
     form: Form,
     jobs: u32,
 ) -> Result<(Vec<u8>, bool), AllocError> {
-    let begun = seals_of(rt, cases, jobs)?;
-    let library = library_of(rt, cases, &begun)?;
+    let library = read_library(rt, cases, jobs)?;
     let is_damaged = AtomicBool::new(false);
     let office = Office {
         rt,

@@ -41,7 +41,3 @@ thead{display:table-header-group}
 }
 </style>
 ";
-
-/// The begin of a table. Where it is wider than the page, it is moved in a frame of its own.
-pub(crate) const TABLE_OPEN: &[u8] = b"<div class=\"wide\"><table>
-<thead><tr>";

@@ -7,7 +7,7 @@ mod words;
 use clap::ArgMatches;
 use flow_call::{NO_MEMORY, WORDS, format_called, is_folder};
 use flow_call_cases::{ask_case, dialogue, draw_case, is_case_command, make, verify, write_page};
-use flow_call_folders::{export, list};
+use flow_call_folders::{export, is_office, list, write_office};
 use flow_call_logs::{draw_log, log_file};
 use flow_call_policies::answer;
 use flow_call_texts::{draw_file, explain_file, lint_file};
@@ -56,6 +56,16 @@ fn lint<R: Files<File = File> + AllocGlobal + Print + Eprint>(
     lint_file(rt, words)
 }
 
+/// Writes the page of a case, or of a folder of cases, and gives the status.
+fn page<
+    R: Files<File = File> + Clock + AllocGlobal + Print + Eprint + Threads + Sync + Clone + Drop,
+>(rt: &R, words: &ArgMatches<'_>) -> u8 {
+    if is_office(rt, words.get_str("case").unwrap_or("")) {
+        return write_office(rt, words);
+    }
+    write_page(rt, words)
+}
+
 /// Does what the words of a subcommand ask for, and gives the status.
 fn called<
     R: Files<File = File>
@@ -80,7 +90,7 @@ fn called<
         "list" => list(rt, words),
         "export" => export(rt, words),
         "new" => make(rt, words),
-        "page" => write_page(rt, words),
+        "page" => page(rt, words),
         "verify" => verify(rt, words),
         "open" => dialogue(rt, words, rt.reader(), at_terminal),
         name if is_case_command(name) => ask_case(rt, name, words),
