@@ -92,7 +92,7 @@ _flowdesk() {
     elif [[ $word == -* && ${COMP_WORDS[1]} == export ]]; then
         mapfile -t COMPREPLY < <(compgen -W "$(_flow_unused --form --rows)" -- "$word")
     elif [[ $word == -* && ${COMP_WORDS[1]} == page ]]; then
-        mapfile -t COMPREPLY < <(compgen -W "$(_flow_unused --at --wait)" -- "$word")
+        mapfile -t COMPREPLY < <(compgen -W "$(_flow_unused --at --wait --jobs)" -- "$word")
     elif [[ $word == -* && ${COMP_WORDS[1]} == new ]]; then
         mapfile -t COMPREPLY < <(compgen -W "$(_flow_unused --workflow --policy --tidy)" -- "$word")
     elif [[ $word == -* && ${COMP_WORDS[1]} != draw && ${COMP_WORDS[1]} != explain && ${COMP_WORDS[1]} != lint && ${COMP_WORDS[1]} != log && ${COMP_WORDS[1]} != alone && ${COMP_WORDS[1]} != staffed ]]; then

@@ -80,13 +80,14 @@ fn put_found(
     found: Found,
 ) -> Result<(), AllocError> {
     match found {
-        Some(Ok(case)) => sorted.cases.push(case),
+        Some(Ok(case)) => sorted.cases.push(case)?,
         Some(Err(Unlisted::Damaged(why))) => sorted.damaged.push(DamagedCase {
             case: Name::new(alloc, name_in(case).as_bytes())?,
             why: Name::new(alloc, why.as_bytes())?,
-        }),
-        Some(Err(Unlisted::NoMemory)) | None => Err(AllocError),
+        })?,
+        Some(Err(Unlisted::NoMemory)) | None => return Err(AllocError),
     }
+    Ok(())
 }
 
 /// The cases, sorted. Their order stays.

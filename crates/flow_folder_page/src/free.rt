@@ -30,7 +30,7 @@ fn push_free_task(alloc: Global, texts: &mut Vec<Name>, ready: &OpenTask) -> Res
 {
     match &ready.users {
         Some(_) => Ok(()),
-        None => texts.push(ready.task.copy(alloc)?),
+        None => Ok(texts.push(ready.task.copy(alloc)?)?),
     }
 }
 
@@ -68,7 +68,8 @@ fn push_some_row(
     }
     let mut cells = Vec::new(alloc);
     cells.push(listed(alloc, texts)?)?;
-    rows.push(row(case.copy(alloc)?, cells))
+    rows.push(row(case.copy(alloc)?, cells))?;
+    Ok(())
 }
 
 /// Adds the row of the case, where anybody may begin or do something.

@@ -87,7 +87,8 @@ fn push_first(
 {
     sections.push(stand_section(alloc, cases, damaged)?)?;
     sections.push(wait_section(alloc, cases)?)?;
-    sections.push(free_section(alloc, cases)?)
+    sections.push(free_section(alloc, cases)?)?;
+    Ok(())
 }
 
 /// Adds what is stuck, what is damaged, and all.
@@ -101,5 +102,6 @@ fn push_last(
 {
     sections.push(stuck_section(alloc, cases)?)?;
     sections.push(damaged_section(alloc, damaged)?)?;
-    sections.push(all_section(alloc, cases)?)
+    sections.push(all_section(alloc, cases)?)?;
+    Ok(())
 }

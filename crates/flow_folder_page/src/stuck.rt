@@ -32,7 +32,7 @@ fn push_barred_task(
     ensures { OnOk result (texts.new.items ≡ texts.old.items ++ barred_task ready.now) }
 {
     match &ready.users {
-        Some(users) if users.is_empty() => texts.push(barred_text(alloc, &ready.task)?),
+        Some(users) if users.is_empty() => Ok(texts.push(barred_text(alloc, &ready.task)?)?),
         _ => Ok(()),
     }
 }

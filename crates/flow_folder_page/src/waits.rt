@@ -2,11 +2,10 @@
 ghost use Rattle.std.specs.Prelude.{◌≡◌, ◌++◌, [], length, map, IfOk, OnOk};
 ghost use Rattle.std.specs.List.{flat_map};
 ghost use Rattle.flow_page.specs.Shown.{shown, shown_section};
-ghost use Rattle.flow_folder_page.specs.Waits.{wait_by, waits_on, waits_of_task, waits_of_case, has_user, with_user, users_in, wait_text, texts_for, user_row, wait_rows, wait_section};
+ghost use Rattle.flow_folder_page.specs.Waits.{wait_by, waits_on, waits_of_task, waits_of_case, has_name, with_name, users_in, with_task, tasks_for, is_of, cases_for, task_row, user_rows, wait_rows, wait_section};
 
-use crate::cells::{listed, number_text, text_of};
+use crate::cells::{listed, number_text};
 use crate::data::{FolderCase, OpenTask};
-use flow_draw::Piece;
 use flow_facts::Name;
 use flow_page::{Row, Section, row, tabled};
 use std::alloc::{AllocError, Global};
@@ -85,26 +84,27 @@ fn waits_of(alloc: Global, cases: &[FolderCase]) -> Result<Vec<Wait>, AllocError
     Ok(waits)
 }
 
-/// Whether the user is among them.
-fn has_user(users: &[Name], user: &Name) -> bool
-    ensures { result ≡ has_user user.now users.now }
+/// Whether the name is among them.
+fn has_name(names: &[Name], name: &Name) -> bool
+    ensures { result ≡ has_name name.now names.now }
 {
-    for one in users {
-        if one == user {
+    for one in names {
+        if one == name {
             return true;
         }
     }
     false
 }
 
-/// Adds the user who is not among them yet.
-fn put_user(alloc: Global, users: &mut Vec<Name>, user: &Name) -> Result<(), AllocError>
-    ensures { OnOk result (users.new.items ≡ with_user users.old.items user.now) }
+/// Adds the name that is not among them yet.
+fn put_name(alloc: Global, names: &mut Vec<Name>, name: &Name) -> Result<(), AllocError>
+    ensures { OnOk result (names.new.items ≡ with_name names.old.items name.now) }
 {
-    if has_user(users, user) {
+    if has_name(names, name) {
         return Ok(());
     }
-    users.push(user.copy(alloc)?)
+    names.push(name.copy(alloc)?)?;
+    Ok(())
 }
 
 /// The users for whom something waits, each once.
@@ -113,57 +113,110 @@ fn users_in(alloc: Global, waits: &[Wait]) -> Result<Vec<Name>, AllocError>
 {
     let mut users = Vec::new(alloc);
     for wait in waits {
-        put_user(alloc, &mut users, &wait.user)?;
+        put_name(alloc, &mut users, &wait.user)?;
     }
     Ok(users)
 }
 
-/// The task, with its case.
-fn wait_text(alloc: Global, wait: &Wait) -> Result<Name, AllocError>
-    ensures { IfOk result (λ text. text ≡ wait_text wait.now) }
+/// Adds the task that waits, where it waits for the user.
+fn put_task(
+    alloc: Global,
+    tasks: &mut Vec<Name>,
+    wait: &Wait,
+    user: &Name,
+) -> Result<(), AllocError>
+    ensures { OnOk result (tasks.new.items ≡ with_task user.now tasks.old.items wait.now) }
 {
-    text_of(
-        alloc,
-        &[
-            Piece::Words(wait.task.bytes()),
-            Piece::Words(b" ("),
-            Piece::Words(wait.case.bytes()),
-            Piece::Words(b")"),
-        ],
-    )
+    if wait.user == *user {
+        return put_name(alloc, tasks, &wait.task);
+    }
+    Ok(())
 }
 
-/// The tasks that wait for the user, each with its case.
-fn texts_for(alloc: Global, waits: &[Wait], user: &Name) -> Result<Vec<Name>, AllocError>
-    ensures { IfOk result (λ texts. texts.items ≡ texts_for user.now waits.now) }
+/// The tasks that wait for the user, each once.
+fn tasks_for(alloc: Global, waits: &[Wait], user: &Name) -> Result<Vec<Name>, AllocError>
+    ensures { IfOk result (λ tasks. tasks.items ≡ tasks_for user.now [] waits.now) }
 {
-    let mut texts = Vec::new(alloc);
+    let mut tasks = Vec::new(alloc);
     for wait in waits {
-        if wait.user == *user {
-            texts.push(wait_text(alloc, wait)?)?;
+        put_task(alloc, &mut tasks, wait, user)?;
+    }
+    Ok(tasks)
+}
+
+/// Whether it is this task that waits for this user.
+fn is_of(wait: &Wait, user: &Name, task: &Name) -> bool
+    ensures { result ≡ is_of user.now task.now wait.now }
+{
+    wait.user == *user && wait.task == *task
+}
+
+/// The cases in which the task waits for the user.
+fn cases_for(
+    alloc: Global,
+    waits: &[Wait],
+    user: &Name,
+    task: &Name,
+) -> Result<Vec<Name>, AllocError>
+    ensures { IfOk result (λ cases. cases.items ≡ cases_for user.now task.now waits.now) }
+{
+    let mut cases = Vec::new(alloc);
+    for wait in waits {
+        if is_of(wait, user, task) {
+            cases.push(wait.case.copy(alloc)?)?;
         }
     }
-    Ok(texts)
+    Ok(cases)
 }
 
-/// The row of a user.
-fn user_row(alloc: Global, waits: &[Wait], user: &Name) -> Result<Row, AllocError>
-    ensures { IfOk result (λ row. shown row ≡ user_row waits.now user.now) }
+/// The row of a task that waits for a user.
+fn task_row(alloc: Global, waits: &[Wait], user: &Name, task: &Name) -> Result<Row, AllocError>
+    ensures { IfOk result (λ row. shown row ≡ task_row waits.now user.now task.now) }
 {
-    let texts = texts_for(alloc, waits, user)?;
+    let cases = cases_for(alloc, waits, user, task)?;
     let mut cells = Vec::new(alloc);
-    cells.push(number_text(alloc, texts.len() as u64)?)?;
-    cells.push(listed(alloc, &texts)?)?;
+    cells.push(task.copy(alloc)?)?;
+    cells.push(number_text(alloc, cases.len() as u64)?)?;
+    cells.push(listed(alloc, &cases)?)?;
     Ok(row(user.copy(alloc)?, cells))
 }
 
+/// Adds the rows of the tasks that wait for a user.
+fn push_task_rows(
+    alloc: Global,
+    rows: &mut Vec<Row>,
+    waits: &[Wait],
+    user: &Name,
+    tasks: &[Name],
+) -> Result<(), AllocError>
+    ensures { OnOk result (map shown rows.new.items ≡ map shown rows.old.items ++ map (task_row waits.now user.now) tasks.now) }
+{
+    for task in tasks {
+        rows.push(task_row(alloc, waits, user, task)?)?;
+    }
+    Ok(())
+}
+
+/// Adds the rows of a user.
+fn push_user_rows(
+    alloc: Global,
+    rows: &mut Vec<Row>,
+    waits: &[Wait],
+    user: &Name,
+) -> Result<(), AllocError>
+    ensures { OnOk result (map shown rows.new.items ≡ map shown rows.old.items ++ user_rows waits.now user.now) }
+{
+    let tasks = tasks_for(alloc, waits, user)?;
+    push_task_rows(alloc, rows, waits, user, &tasks)
+}
+
 /// The rows of the users.
-fn user_rows(alloc: Global, waits: &[Wait], users: &[Name]) -> Result<Vec<Row>, AllocError>
-    ensures { IfOk result (λ rows. map shown rows.items ≡ map (user_row waits.now) users.now) }
+fn rows_of(alloc: Global, waits: &[Wait], users: &[Name]) -> Result<Vec<Row>, AllocError>
+    ensures { IfOk result (λ rows. map shown rows.items ≡ flat_map (user_rows waits.now) users.now) }
 {
     let mut rows = Vec::new(alloc);
     for user in users {
-        rows.push(user_row(alloc, waits, user)?)?;
+        push_user_rows(alloc, &mut rows, waits, user)?;
     }
     Ok(rows)
 }
@@ -174,7 +227,7 @@ fn wait_rows(alloc: Global, cases: &[FolderCase]) -> Result<Vec<Row>, AllocError
 {
     let waits = waits_of(alloc, cases)?;
     let users = users_in(alloc, &waits)?;
-    user_rows(alloc, &waits, &users)
+    rows_of(alloc, &waits, &users)
 }
 
 /// The section of what waits for whom.
@@ -185,7 +238,7 @@ pub(crate) fn wait_section(alloc: Global, cases: &[FolderCase]) -> Result<Sectio
     tabled(
         alloc,
         b"What waits for whom",
-        &["user", "tasks", "which, and of which case"],
+        &["user", "task", "cases", "which"],
         rows,
         b"Nothing waits for a user.",
     )
