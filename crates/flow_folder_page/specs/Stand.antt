@@ -35,6 +35,6 @@ stand_rows cases damaged =
     map (state_row cases) (Open ∷ Waiting ∷ Finished ∷ StuckByFacts ∷ StuckByDuties ∷ Committed ∷ [])
     ++ number_row (codes "damaged") damaged ∷ []
 
-abbrev pub stand_section : List FolderCase → ℕ → ShownSection
+unfoldable pub stand_section : List FolderCase → ℕ → ShownSection
 stand_section cases damaged =
     tabled (codes "How the cases stand") (codes "state" ∷ codes "cases" ∷ []) (stand_rows cases damaged) (codes "There is no case.")

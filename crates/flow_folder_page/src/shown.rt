@@ -47,7 +47,7 @@ fn page_with(alloc: Global, folder: &Folder<'_>, held: &[Held]) -> Result<Page, 
 }
 
 /// The title: the folder, and when it is shown.
-fn title_of(alloc: Global, path: &str, at: &str) -> Result<Name, AllocError>
+fn title_of<'a>(alloc: Global, path: &'a str, at: &'a str) -> Result<Name, AllocError>
     ensures { IfOk result (λ title. title ≡ title_text path.now at.now) }
 {
     text_of(

@@ -97,6 +97,7 @@ fn stand_rows(
 }
 
 /// The section of how many cases stand how.
+#[tactic(auto, unfolding(crate::specs::Stand::stand_section))]
 pub(crate) fn stand_section(
     alloc: Global,
     cases: &[FolderCase],
