@@ -1,5 +1,5 @@
 -- Lines that are put one behind another.
-use Rattle.std.proofs.Common.{◌≡◌, ◌<◌, ◌+◌, ◌∙◌, ◌⊎◌, ℕ, zero, suc, List, [], ◌∷◌, ◌++◌, length, Some, slice_get, refl, sym, ap, subst, append-nil, append_assoc, length-append, inl, inr, arith}
+use Rattle.std.proofs.Common.{◌≡◌, ◌+◌, ◌∙◌, ◌⊎◌, ℕ, zero, suc, List, [], ◌∷◌, ◌++◌, length, Some, slice_get, refl, sym, ap, subst, append-nil, append_assoc, length-append, inl, inr, arith}
 use Rattle.flow_model.specs.Lists.{joined}
 use Rattle.flow_case_seen.specs.All.{AreLines}
 

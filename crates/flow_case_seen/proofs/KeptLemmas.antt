@@ -7,7 +7,7 @@ use Rattle.flow_expand.specs.Workflows.{IsExpanded}
 use Rattle.flow_core.specs.Run.{Run}
 use Rattle.flow_case.specs.declared.case_run.CaseRun.{CaseRun}
 use Rattle.flow_case.specs.declared.case_run.CaseRun.TheVariants.{Free}
-use Rattle.flow_case.specs.CaseRun.{run_of, case_with}
+use Rattle.flow_case.specs.CaseRun.{case_with}
 use Rattle.flow_keep.specs.Records.{Keeps}
 use Rattle.flow_case_begin.specs.declared.texts.TheConstants.{MOST_STEPS}
 use Rattle.flow_case_begin.specs.Begun.{IsBegun}

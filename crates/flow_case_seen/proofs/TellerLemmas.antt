@@ -1,5 +1,5 @@
 -- Lines of a trail that are read one after another.
-use Rattle.std.proofs.Common.{◌≡◌, ◌∙◌, Bool, true, false, ℕ, List, [], ◌∷◌, ◌++◌, map, refl, sym, ap, append-nil, append_assoc}
+use Rattle.std.proofs.Common.{◌≡◌, ◌∙◌, Bool, true, false, List, [], ◌∷◌, ◌++◌, map, refl, sym, ap, append-nil, append_assoc}
 use Rattle.flow_trail.specs.declared.line.TrailLine.{TrailLine}
 use Rattle.flow_trail.specs.Lines.{Said, said_of, told, void, undone}
 use Rattle.flow_trail.specs.Due.{begins_void}

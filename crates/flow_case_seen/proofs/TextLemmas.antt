@@ -10,7 +10,7 @@ use Rattle.flow_case.specs.declared.case_run.CaseRun.{CaseRun}
 use Rattle.flow_case_begin.specs.Begun.{IsBegun}
 use Rattle.flow_case_begin.specs.declared.stop.CaseStop.{CaseStop}
 use Rattle.flow_case_begin.specs.Stops.{IsNoCaseOf}
-use Rattle.flow_case_seen.specs.Texts.{Shared, AreRead}
+use Rattle.flow_case_seen.specs.Texts.{AreRead}
 
 pub are_read : (workflow : List ℕ) (given policy : Option (List ℕ)) (users : Option (List (List ℕ))) (s : Said) (start : TrailEnd) (begun : CaseRun) →
     given ≡ policy → Says workflow s → IsClosed s → IsBegun s given begun → start ≡ first_end workflow (unwrap_or given []) →
@@ -23,5 +23,7 @@ are_read workflow given policy users s start begun same says closed begins start
   starts = starts ∙ ap (λ (p : Option (List ℕ)). first_end workflow (unwrap_or p [])) same;
 }
 
-pub none_read : (workflow : List ℕ) (given policy : Option (List ℕ)) (stop : CaseStop) → given ≡ policy → IsNoCaseOf workflow given stop → IsNoCaseOf workflow policy stop
-none_read workflow given policy stop same why = subst (λ (p : Option (List ℕ)). IsNoCaseOf workflow p stop) same why
+pub none_read : (read workflow : List ℕ) (given policy : Option (List ℕ)) (stop : CaseStop) → read ≡ workflow → given ≡ policy → IsNoCaseOf read given stop →
+    IsNoCaseOf workflow policy stop
+none_read read workflow given policy stop whole same why =
+    subst (λ (p : Option (List ℕ)). IsNoCaseOf workflow p stop) same (subst (λ (w : List ℕ). IsNoCaseOf w given stop) whole why)

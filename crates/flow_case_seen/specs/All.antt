@@ -1,5 +1,5 @@
 -- What is told of many cases, in order.
-use Rattle.std.specs.Prelude.{◌≡◌, ◌<◌, ℕ, List, length, Ok, Some, Result, slice_get}
+use Rattle.std.specs.Prelude.{◌≡◌, ℕ, List, length, Ok, Some, Result, slice_get}
 use Rattle.std.proofs.Common.{Vec, Global}
 use Rattle.std.specs.declared.alloc.AllocError.{AllocError}
 use Rattle.flow_model.specs.Lists.{joined}

@@ -1,5 +1,5 @@
 -- Who made the entries that the lines of a trail tell.
-use Rattle.std.specs.Prelude.{ℕ, Bool, if◌then◌else◌, List, [], ◌∷◌}
+use Rattle.std.specs.Prelude.{Bool, if◌then◌else◌, List, [], ◌∷◌}
 use Rattle.flow_trail.specs.Lines.{Said, told, void, undone}
 use Rattle.flow_trail.specs.Due.{begins_void}
 use Rattle.flow_export.specs.declared.log_row.Teller.{Teller}

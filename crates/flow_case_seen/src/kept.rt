@@ -98,7 +98,6 @@ fn governed(alloc: Global, script: &Script, policy: &[u8], core: Core) -> Result
 
 /// The case of the texts whose entries the bytes keep. An entry that is of no run of the workflow, or that duties or rules forbid, is
 /// told by its place.
-#[tactic(auto, using(crate::proofs::KeptLemmas::free_case, crate::proofs::KeptLemmas::ruled_case))]
 pub(crate) fn kept_case(
     alloc: Global,
     texts: &SharedTexts,

@@ -25,7 +25,7 @@ fn check_told(run: &CaseRun, tellers: &[Teller]) -> Result<(), CaseStop>
     ensures { OnOk result (length (run_of run.now).history ≤ length tellers.now) }
 {
     if tellers.len() < run.core().history().len() {
-        let told = tellers.len() as u32;
+        let told = u32::try_from(tellers.len()).unwrap_or(u32::MAX);
         return Err(CaseStop::from(OpenRefusal::Count { told }));
     }
     Ok(())
