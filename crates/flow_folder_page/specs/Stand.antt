@@ -1,5 +1,5 @@
 -- How many cases stand how.
-use Rattle.std.specs.Prelude.{ℕ, zero, suc, ◌==◌, Bool, if◌then◌else◌, List, [], ◌∷◌, ◌++◌, map, codes}
+use Rattle.std.specs.Prelude.{ℕ, suc, ◌==◌, Bool, if◌then◌else◌, List, [], ◌∷◌, ◌++◌, map, codes}
 use Rattle.std.specs.Fmt.{decimal}
 use Rattle.flow_case_state.specs.declared.state.CaseState.{CaseState}
 use Rattle.flow_case_state.specs.declared.state.CaseState.TheVariants.{Open, Waiting, Finished, StuckByFacts, StuckByDuties, Committed}

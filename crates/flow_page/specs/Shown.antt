@@ -1,6 +1,5 @@
 -- What a page has, without where it lies in memory.
 use Rattle.std.specs.Prelude.{ℕ, Bool, false, List, [], ◌∷◌, map}
-use Rattle.flow_page.specs.declared.data.Page.{Page}
 use Rattle.flow_page.specs.declared.data.Part.{Part}
 use Rattle.flow_page.specs.declared.data.Part.TheVariants.{Text, Picture, Table}
 use Rattle.flow_page.specs.declared.data.Row.{Row}

@@ -1,4 +1,4 @@
-use Rattle.std.proofs.Common.{◌≡◌, ◌++◌, map, take}
+use Rattle.std.proofs.Common.{◌≡◌, map, take}
 use Rattle.flow_page.proofs.made.columns.Given as goal
 
 abbrev pub invariant-loop-head : goal.invariant-loop-head
