@@ -44,17 +44,22 @@ one_place_more P bound none last place within has = elim (cases_order place boun
 ]
 
 -- the next entry gave it not
-pub not_gave : (history : List Entry) (claim k : ℕ) (d : Entry) → k < length history → NoneBefore (GaveAt history claim) k →
-    ¬ ((leaf : ℕ) × ((get_or history k d).step ≡ Took claim leaf)) → NoneBefore (GaveAt history claim) (k + 1)
-not_gave history claim k d within none not =
-    one_place_more (GaveAt history claim) k none (λ gave. not (given_here history claim k (get_or history k d) (slice_get-get_or history k d within) gave))
+pub not_gave : (history : List Entry) (claim k : ℕ) (d entry : Entry) → k < length history → entry ≡ get_or history k d → NoneBefore (GaveAt history claim) k →
+    ¬ ((leaf : ℕ) × (entry.step ≡ Took claim leaf)) → NoneBefore (GaveAt history claim) (k + 1)
+not_gave history claim k d entry within is none not =
+    one_place_more (GaveAt history claim) k none (λ gave. not (given_here history claim k entry (slice_get-get_or history k d within ∙ ap Some (sym is)) gave))
 
 -- the next entry gave it: what is told of that entry
-pub told_first : (history : List Entry) (told : List Teller) (claim k : ℕ) (d : Entry) (result : Option (Bor Teller)) → k < length history →
-    NoneBefore (GaveAt history claim) k → (leaf : ℕ) × ((get_or history k d).step ≡ Took claim leaf) →
+pub told_first : (history : List Entry) (told : List Teller) (claim k : ℕ) (d entry : Entry) (result : Option (Bor Teller)) → k < length history → entry ≡ get_or history k d →
+    NoneBefore (GaveAt history claim) k → (leaf : ℕ) × (entry.step ≡ Took claim leaf) →
     MatchOption result (slice_get told k ≡ None) (λ teller. slice_get told k ≡ Some teller.now) →
     MatchOption result ((place : ℕ) → GaveAt history claim place → slice_get told place ≡ None)
     (λ teller. (place : ℕ) × GaveAt history claim place × (slice_get told place ≡ Some teller.now))
-told_first history told claim k d None within none gave found = none_told history told claim k none found
-told_first history told claim k d (Some teller) within none gave found =
-    (k, gave_here history claim k (get_or history k d) (slice_get-get_or history k d within) gave, found)
+told_first history told claim k d entry None within is none gave found = none_told history told claim k none found
+told_first history told claim k d entry (Some teller) within is none gave found =
+    (k, gave_here history claim k entry (slice_get-get_or history k d within ∙ ap Some (sym is)) gave, found)
+
+-- no entry gave it, so nothing is told of one that did
+pub none_told_at_all : (history : List Entry) (told : List Teller) (claim bound : ℕ) → length history ≤ bound → NoneBefore (GaveAt history claim) bound →
+    (place : ℕ) → GaveAt history claim place → slice_get told place ≡ None
+none_told_at_all history told claim bound past none place gave = absurd (none_gave history claim bound past none place gave)

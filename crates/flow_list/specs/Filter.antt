@@ -39,7 +39,7 @@ abbrev pub IsFor : Option (List (List ℕ)) → List ℕ → CaseLine → Type 0
 IsFor users name line = SomeBegin users name line.tasks.begin.items ⊎ (SomeOut name line.tasks.out.items ⊎ (line.steps.free.items ≢ []))
 
 -- each of these holds where it is not asked for
-abbrev pub IsForAny : Option (List (List ℕ)) → Option String → CaseLine → Type 0
+abbrev pub IsForAny : Option (List (List ℕ)) → Option (String Global) → CaseLine → Type 0
 IsForAny users None line = Unit {0}
 IsForAny users (Some user) line = IsFor users (string_bytes user) line
 

@@ -4,4 +4,3 @@ pub mod Line
 pub mod Out
 pub mod Steps
 pub mod Tasks
-pub mod Words

@@ -1,5 +1,6 @@
 -- The line of a case.
 use Rattle.std.specs.Prelude.{◌≡◌, ◌-◌, ℕ, zero, suc, String, List, length, Option, None, Some, slice_get}
+use Rattle.std.proofs.Common.{Global}
 use Rattle.std.specs.Option.{option_map}
 use Rattle.std.specs.String.{string_bytes}
 use Rattle.flow_case.specs.declared.case_run.CaseRun.{CaseRun}
@@ -23,7 +24,7 @@ last_of told zero = None
 last_of told (suc count) = slice_get told count
 
 -- when it was made, as it is told
-abbrev pub IsLastTold : List Teller → ℕ → Option String → Type 0
+abbrev pub IsLastTold : List Teller → ℕ → Option (String Global) → Type 0
 IsLastTold told count last = option_map string_bytes last ≡ option_map (λ (t : Teller). string_bytes t.at) (last_of told count)
 
 pub record IsLineOf (c : CaseRun) (users : ℕ) (told : List Teller) (line : CaseLine) : Type 0 where

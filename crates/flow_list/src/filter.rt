@@ -88,14 +88,29 @@ fn has_one(tasks: &[TaskOut], user: &str) -> bool
     false
 }
 
+/// Whether a test or an update may be done.
+fn has_step(line: &CaseLine) -> bool
+    ensures { IsTrue result ↔ (line.now.steps.free.items ≢ []) }
+{
+    match line.steps.free.as_slice() {
+        [] => false,
+        _ => true,
+    }
+}
+
+/// Whether the user of that name has one of the tasks, or a test or an update may be done.
+fn has_one_or_step(line: &CaseLine, user: &str) -> bool
+    ensures { IsTrue result ↔ (SomeOut user.now line.now.tasks.out.items ⊎ (line.now.steps.free.items ≢ [])) }
+{
+    has_one(&line.tasks.out, user) || has_step(line)
+}
+
 /// Whether the case waits for the user of that name: who may begin one of its tasks, has one of them, or may do a test or an update,
 /// which anybody may.
 fn is_for(texts: &SharedTexts, line: &CaseLine, user: &str) -> bool
     ensures { IsTrue result ↔ IsFor texts.now.users user.now line.now }
 {
-    may_begin_one(texts, &line.tasks.begin, user)
-        || has_one(&line.tasks.out, user)
-        || !line.steps.free.is_empty()
+    may_begin_one(texts, &line.tasks.begin, user) || has_one_or_step(line, user)
 }
 
 /// Whether the case waits for the user of that name, if one is asked for.

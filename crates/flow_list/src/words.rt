@@ -1,12 +1,9 @@
 //! Lines in words.
-ghost use Rattle.std.specs.Prelude.{◌≡◌};
-ghost use Rattle.flow_list.specs.Words.{name_of, user_name};
 
 use crate::line::CaseLine;
 use crate::out::TaskOut;
 use crate::steps::LeafName;
 use crate::tasks::Beginning;
-use flow_case::Users;
 use flow_case_seen::SharedTexts;
 use flow_case_state::CaseState;
 use flow_writer::Writer;
@@ -26,18 +23,10 @@ fn state_words(state: CaseState) -> &'static str {
 }
 
 /// The name of the user with that number.
-pub fn name_of(texts: &SharedTexts, number: u32) -> &[u8]
-    ensures { result.now ≡ name_of texts.now.users number }
-{
-    match texts.users() {
-        Some(users) => user_name(users, number),
-        None => b"nobody",
-    }
-}
-
-fn user_name(users: &Users, number: u32) -> &[u8]
-    ensures { result.now ≡ user_name users.now number }
-{
+pub(crate) fn name_of(texts: &SharedTexts, number: u32) -> &[u8] {
+    let Some(users) = texts.users() else {
+        return b"nobody";
+    };
     match users.name_of(number) {
         Some(name) => name.bytes(),
         None => b"nobody",

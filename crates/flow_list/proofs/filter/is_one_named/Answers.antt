@@ -8,13 +8,13 @@ use Rattle.flow_list.proofs.filter.is_one_named.Goals as goal
 
 pub returns-then-is_named : goal.returns-then-is_named
 returns-then-is_named c = (
-  (λ t. some_at (λ (n : ℕ). IsUserOf c.args.texts.now.users n c.args.user.now) c.args.numbers.now c.loop-number.number-index _ c.loop-number-test.true (c.if-is_named.ensures.0 refl)),
+  (λ t. some_at (λ (n : ℕ). IsUserOf c.args.texts.now.users n c.args.user.now) c.args.numbers.now c.loop-number.number-index _ _ c.loop-number-test.true refl (c.if-is_named.ensures.0 refl)),
   (λ some. refl),
 )
 
 pub loop-number-preserved : goal.loop-number-preserved
 loop-number-preserved c =
-    none_of_more (λ (n : ℕ). IsUserOf c.args.texts.now.users n c.args.user.now) c.args.numbers.now c.loop-number.number-index _ c.loop-number-test.true c.loop-number.invariant (λ is. true≢false (sym (c.if-is_named.ensures.1 is)))
+    none_of_more (λ (n : ℕ). IsUserOf c.args.texts.now.users n c.args.user.now) c.args.numbers.now c.loop-number.number-index _ _ c.loop-number-test.true refl c.loop-number.invariant (λ is. true≢false (sym (c.if-is_named.ensures.1 is)))
 
 pub returns : goal.returns
 returns c =

@@ -8,13 +8,13 @@ use Rattle.flow_list.proofs.filter.may_begin_one.Goals as goal
 
 pub returns-then-is_begun_by : goal.returns-then-is_begun_by
 returns-then-is_begun_by c = (
-  (λ t. some_at (λ (t : Beginning). IsBegunBy c.args.texts.now.users c.args.user.now t) c.args.tasks.now c.loop-task.task-index _ c.loop-task-test.true (c.if-is_begun_by.ensures.0 refl)),
+  (λ t. some_at (λ (t : Beginning). IsBegunBy c.args.texts.now.users c.args.user.now t) c.args.tasks.now c.loop-task.task-index _ c.task-item.result c.loop-task-test.true c.task-item.is (c.if-is_begun_by.ensures.0 refl)),
   (λ some. refl),
 )
 
 pub loop-task-preserved : goal.loop-task-preserved
 loop-task-preserved c =
-    none_of_more (λ (t : Beginning). IsBegunBy c.args.texts.now.users c.args.user.now t) c.args.tasks.now c.loop-task.task-index _ c.loop-task-test.true c.loop-task.invariant (λ is. true≢false (sym (c.if-is_begun_by.ensures.1 is)))
+    none_of_more (λ (t : Beginning). IsBegunBy c.args.texts.now.users c.args.user.now t) c.args.tasks.now c.loop-task.task-index _ c.task-item.result c.loop-task-test.true c.task-item.is c.loop-task.invariant (λ is. true≢false (sym (c.if-is_begun_by.ensures.1 is)))
 
 pub returns : goal.returns
 returns c =
