@@ -24,9 +24,7 @@ pub fn page_command<'a>(alloc: Global) -> Result<Command<'a>, AllocError> {
         "the folder of the case, or a folder whose folders are cases",
     );
     Command::new(alloc, "page")
-        .about(
-            "Writes the page of a case as HTML, or that of a folder of cases",
-        )
+        .about("Writes the page of a case as HTML, or that of a folder of cases")
         .arg(case)?
         .arg(option(alloc, "at", "TIME", "when; without it the system's time"))?
         .arg(option(

@@ -4,6 +4,7 @@
 mod exported;
 mod lines;
 mod listed;
+mod named;
 mod paged;
 mod seen;
 

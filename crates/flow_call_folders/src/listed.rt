@@ -10,8 +10,8 @@ use flow_call::{
 };
 use flow_case_seen::{Cases, all_lines};
 use flow_list::{
-    CaseLine, Filter, damaged_object, damaged_words, is_shown, line_object, line_words,
-    seconds_in, state_called,
+    CaseLine, Filter, damaged_object, damaged_words, is_shown, line_object, line_words, seconds_in,
+    state_called,
 };
 use jiff::Timestamp;
 use std::alloc::{AllocError, Global};
