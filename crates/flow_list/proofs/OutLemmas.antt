@@ -1,5 +1,5 @@
 -- The entry that gave a claim, looked for from the first on.
-use Rattle.std.proofs.Common.{◌≡◌, ◌<◌, ◌≤◌, ◌+◌, ◌∙◌, ◌⊎◌, ℕ, List, length, None, Some, Option, get_or, slice_get, MatchOption, Bor, inl, inr, sym, ap, subst, arith}
+use Rattle.std.proofs.Common.{◌≡◌, ◌<◌, ◌≤◌, ◌+◌, ◌∙◌, ℕ, List, length, None, Some, Option, get_or, slice_get, MatchOption, Bor, inl, inr, sym, ap, subst, arith}
 use Rattle.std.proofs.lemmas.Bool.{cases_order}
 use Rattle.std.proofs.lemmas.Option.{slice_get_within, slice_get-get_or}
 use Rattle.flow_model.specs.declared.history.Entry.{Entry}

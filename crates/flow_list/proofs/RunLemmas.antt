@@ -1,5 +1,5 @@
 -- A case under a policy, as a run and what is assigned.
-use Rattle.std.proofs.Common.{◌≡◌, ℕ, List, Some, Vec, Global, sym, subst}
+use Rattle.std.proofs.Common.{◌≡◌, ℕ, Some, Vec, Global, sym, subst}
 use Rattle.flow_model.specs.Verdict.{AreJust}
 use Rattle.flow_core.specs.Run.{Run}
 use Rattle.flow_policy.specs.Assigned.{Assigned}

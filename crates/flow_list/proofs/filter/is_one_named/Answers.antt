@@ -1,8 +1,5 @@
-use Rattle.std.proofs.Common.{◌≡◌, ◌≤◌, ℕ, length, true≢false, refl, sym, arith}
-use Rattle.std.specs.String.{string_bytes}
-use Rattle.flow_list.specs.declared.out.TaskOut.{TaskOut}
-use Rattle.flow_list.specs.declared.tasks.Beginning.{Beginning}
-use Rattle.flow_list.specs.Filter.{IsUserOf, IsBegunBy}
+use Rattle.std.proofs.Common.{◌≤◌, ℕ, length, true≢false, refl, sym, arith}
+use Rattle.flow_list.specs.Filter.{IsUserOf}
 use Rattle.flow_list.proofs.PlaceLemmas.{none_of_more, none_of_all, some_at}
 use Rattle.flow_list.proofs.filter.is_one_named.Goals as goal
 

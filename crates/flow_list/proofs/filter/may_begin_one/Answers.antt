@@ -1,8 +1,6 @@
-use Rattle.std.proofs.Common.{◌≡◌, ◌≤◌, ℕ, length, true≢false, refl, sym, arith}
-use Rattle.std.specs.String.{string_bytes}
-use Rattle.flow_list.specs.declared.out.TaskOut.{TaskOut}
+use Rattle.std.proofs.Common.{◌≤◌, length, true≢false, refl, sym, arith}
 use Rattle.flow_list.specs.declared.tasks.Beginning.{Beginning}
-use Rattle.flow_list.specs.Filter.{IsUserOf, IsBegunBy}
+use Rattle.flow_list.specs.Filter.{IsBegunBy}
 use Rattle.flow_list.proofs.PlaceLemmas.{none_of_more, none_of_all, some_at}
 use Rattle.flow_list.proofs.filter.may_begin_one.Goals as goal
 
