@@ -1,7 +1,7 @@
 -- Lines of a trail that are read one after another.
 use Rattle.std.proofs.Common.{◌≡◌, ◌∙◌, Bool, true, false, List, [], ◌∷◌, ◌++◌, map, refl, sym, ap, append-nil, append_assoc}
 use Rattle.flow_trail.specs.declared.line.TrailLine.{TrailLine}
-use Rattle.flow_trail.specs.Lines.{Said, said_of, told, void, undone}
+use Rattle.flow_trail.specs.Lines.{Said, said_of, told}
 use Rattle.flow_trail.specs.Due.{begins_void}
 use Rattle.flow_export.specs.Rows.{Tale}
 use Rattle.flow_case_seen.specs.Tellers.{made_by, makers}
@@ -9,8 +9,7 @@ use Rattle.flow_case_seen.specs.Tellers.{made_by, makers}
 in_front : (said : Said) (voided : Bool) (more : List Tale) → made_by said voided more ≡ made_by said voided [] ++ more
 in_front (told at by entry task note) true more = refl
 in_front (told at by entry task note) false more = refl
-in_front (void at) voided more = refl
-in_front (undone task entry by at) voided more = refl
+in_front other voided more = refl
 
 -- a line more
 pub next_line : (all found new : List Tale) (rest behind : List TrailLine) (line : TrailLine) → rest ≡ line ∷ behind →
