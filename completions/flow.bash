@@ -81,6 +81,7 @@ _flowdesk() {
         --form)
             local forms="svg mermaid dot"
             [[ ${COMP_WORDS[1]} == log ]] && forms="text csv json"
+            [[ ${COMP_WORDS[1]} == export ]] && forms="csv jsonl xes sql"
             mapfile -t COMPREPLY < <(compgen -W "$forms" -- "$word") && return
             ;;
         --state) mapfile -t COMPREPLY < <(compgen -W "open waiting finished stuck stuck_by_duties committed" -- "$word") && return ;;
@@ -93,7 +94,7 @@ _flowdesk() {
     elif [[ $word == -* && ${COMP_WORDS[1]} == list ]]; then
         mapfile -t COMPREPLY < <(compgen -W "$(_flow_unused --for --state --older --workflow --jobs --json)" -- "$word")
     elif [[ $word == -* && ${COMP_WORDS[1]} == export ]]; then
-        mapfile -t COMPREPLY < <(compgen -W "$(_flow_unused --form --rows)" -- "$word")
+        mapfile -t COMPREPLY < <(compgen -W "$(_flow_unused --form --rows --jobs)" -- "$word")
     elif [[ $word == -* && ${COMP_WORDS[1]} == page ]]; then
         mapfile -t COMPREPLY < <(compgen -W "$(_flow_unused --at --wait --jobs)" -- "$word")
     elif [[ $word == -* && ${COMP_WORDS[1]} == new ]]; then

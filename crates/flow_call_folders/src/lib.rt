@@ -2,7 +2,7 @@
 #![tactic(auto)]
 
 mod exported;
-mod lines;
+mod library;
 mod listed;
 mod named;
 mod paged;

@@ -1,6 +1,6 @@
 //! Many cases at a glance. Files are only read, and no lock is taken.
 
-use crate::lines::{Library, Unlisted, line_now, read_library, texts_for};
+use crate::library::{CaseFiles, Library, Unseen, files_of, library_of, why_stopped};
 use crate::seen::cases_in;
 use clap::builder::ValueParser;
 use clap::{ArgMatches, Command};
@@ -8,10 +8,10 @@ use flow_call::{
     MOST_JOBS, NO_MEMORY, REFUSED, USUAL_JOBS, WORDS, flag, number_in, option, required,
     say_unread, write_out,
 };
-use flow_case_seen::{Cases, all_lines};
+use flow_case_seen::{Cases, SharedTexts, all_lines};
 use flow_list::{
-    CaseLine, Filter, damaged_object, damaged_words, is_shown, line_object, line_words, seconds_in,
-    state_called,
+    CaseLine, Filter, damaged_object, damaged_words, is_shown, line_object, line_of_files,
+    line_words, seconds_in, state_called,
 };
 use jiff::Timestamp;
 use std::alloc::{AllocError, Global};
@@ -97,11 +97,24 @@ fn second_of(line: &CaseLine) -> Option<u64> {
     }
 }
 
+/// The line of the case of these texts, as its files are now.
+pub(crate) fn line_now<R: Files<File = File> + AllocGlobal>(
+    rt: &R,
+    case: &str,
+    texts: &SharedTexts,
+) -> Result<CaseLine, Unseen> {
+    let CaseFiles { entries, trail } = files_of(rt, case)?;
+    match line_of_files(rt.alloc(), texts, entries, &trail) {
+        Ok(line) => Ok(line),
+        Err(stop) => Err(why_stopped(rt.alloc(), &stop)),
+    }
+}
+
 impl<'a, R: Files<File = File> + AllocGlobal + Sync> Office<'a, R> {
     /// The line of the case at a place as it is shown, or nothing where it is not.
-    fn shown(&self, place: usize, case: &str) -> Result<Vec<u8>, Unlisted> {
-        let texts = texts_for(self.rt, self.library, place, case)?;
-        let line = line_now(self.rt, texts, case)?;
+    fn shown(&self, place: usize, case: &str) -> Result<Vec<u8>, Unseen> {
+        let texts = self.library.texts_at(self.rt, place, case)?;
+        let line = line_now(self.rt, case, texts)?;
         let alloc = self.rt.alloc();
         if !is_shown(self.filter, texts, &line, second_of(&line)) {
             return Ok(Vec::new(alloc));
@@ -133,8 +146,8 @@ impl<'a, R: Files<File = File> + AllocGlobal + Sync> Cases for Office<'a, R> {
         };
         match self.shown(place, case.as_str()) {
             Ok(line) => Ok(line),
-            Err(Unlisted::Damaged(why)) => self.damaged(case.as_str(), why.as_str()),
-            Err(Unlisted::NoMemory) => Err(AllocError),
+            Err(Unseen::Damaged(why)) => self.damaged(case.as_str(), why.as_str()),
+            Err(Unseen::NoMemory) => Err(AllocError),
         }
     }
 }
@@ -214,7 +227,7 @@ fn lines_of<R: Files<File = File> + AllocGlobal + Threads + Sync>(
     form: Form,
     jobs: u32,
 ) -> Result<(Vec<u8>, bool), AllocError> {
-    let library = read_library(rt, cases, jobs)?;
+    let library = library_of(rt, cases, jobs)?;
     let is_damaged = AtomicBool::new(false);
     let office = Office {
         rt,

@@ -1,6 +1,7 @@
 //! The page of a folder of cases. Files are only read, and no lock is taken.
 
-use crate::lines::{Library, Unlisted, line_now, read_library, texts_for};
+use crate::library::{Library, Unseen, library_of};
+use crate::listed::line_now;
 use crate::named::folder_case;
 use crate::seen::cases_in;
 use clap::ArgMatches;
@@ -18,7 +19,7 @@ use std::thread::{Threads, for_each_mut};
 use std::time::Clock;
 
 /// What was found of a case; nothing before it is looked at.
-type Found = Option<Result<FolderCase, Unlisted>>;
+type Found = Option<Result<FolderCase, Unseen>>;
 
 /// The name of a case in its folder.
 fn name_in(case: &str) -> &str {
@@ -34,9 +35,9 @@ fn found_at<R: Files<File = File> + AllocGlobal>(
     library: &Library,
     place: usize,
     case: &str,
-) -> Result<FolderCase, Unlisted> {
-    let texts = texts_for(rt, library, place, case)?;
-    let line = line_now(rt, texts, case)?;
+) -> Result<FolderCase, Unseen> {
+    let texts = library.texts_at(rt, place, case)?;
+    let line = line_now(rt, case, texts)?;
     let found = folder_case(rt.alloc(), texts, name_in(case), &line);
     drop(line);
     Ok(found?)
@@ -82,11 +83,11 @@ fn put_found(
 ) -> Result<(), AllocError> {
     match found {
         Some(Ok(case)) => sorted.cases.push(case)?,
-        Some(Err(Unlisted::Damaged(why))) => sorted.damaged.push(DamagedCase {
+        Some(Err(Unseen::Damaged(why))) => sorted.damaged.push(DamagedCase {
             case: Name::new(alloc, name_in(case).as_bytes())?,
             why: Name::new(alloc, why.as_bytes())?,
         })?,
-        Some(Err(Unlisted::NoMemory)) | None => return Err(AllocError),
+        Some(Err(Unseen::NoMemory)) | None => return Err(AllocError),
     }
     Ok(())
 }
@@ -111,7 +112,7 @@ fn page_of<R: Files<File = File> + AllocGlobal + Threads + Sync>(
     cases: &[String],
     jobs: u32,
 ) -> Result<(Vec<u8>, bool), AllocError> {
-    let library = read_library(rt, cases, jobs)?;
+    let library = library_of(rt, cases, jobs)?;
     let found = found_in(rt, cases, &library, jobs)?;
     let sorted = sorted_of(rt.alloc(), cases, found)?;
     let shown = Folder {

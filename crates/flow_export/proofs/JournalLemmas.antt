@@ -1,8 +1,6 @@
 -- The events that count are the journal.
-use Rattle.std.proofs.Common.{◌≡◌, ◌≢◌, ◌<◌, ◌≤◌, ℕ, zero, suc, ◌+◌, ◌-◌, ◌==◌, Bool, true, false, List, [], ◌∷◌, ◌++◌, length, map, filter_map, Option, Some, None, slice_get, refl, sym, ap, subst, ◌∙◌, arith, inl, inr}
-use Rattle.std.specs.List.{filter}
-use Rattle.std.proofs.lemmas.Bool.{cases_lt, cases_Bool, eqb-true, eq-eqb, ne_eqb}
-use Rattle.std.proofs.lemmas.List.{map-append}
+use Rattle.std.proofs.Common.{◌≡◌, ◌≢◌, ◌<◌, ◌≤◌, ℕ, suc, ◌+◌, ◌-◌, ◌==◌, true, false, List, [], ◌∷◌, ◌++◌, length, map, filter_map, Option, Some, None, slice_get, refl, sym, ap, subst, ◌∙◌, arith, inl, inr}
+use Rattle.std.proofs.lemmas.Bool.{cases_lt, cases_Bool, eq-eqb, ne_eqb}
 use Rattle.flow_model.specs.declared.history.Entry.{Entry}
 use Rattle.flow_model.specs.declared.history.Step.{Step}
 use Rattle.flow_model.specs.declared.history.Step.TheVariants.{Took, Done, Failed, Late, Did, Rewound, Committed}
@@ -13,9 +11,9 @@ use Rattle.flow_model.specs.Schema.{Schema}
 use Rattle.flow_model.specs.Run.{leaf_of_claim, state_of}
 use Rattle.flow_standing.specs.declared.trail.Doing.{Doing}
 use Rattle.flow_standing.specs.declared.undone.TakenBack.{TakenBack}
-use Rattle.flow_standing.specs.Trail.{doing_by, IsMade, length_after, StandsAt, AreDoings}
+use Rattle.flow_standing.specs.Trail.{doing_by, IsMade, length_after, StandsAt}
 use Rattle.flow_export.specs.declared.log_event.LogEvent.{LogEvent}
-use Rattle.flow_export.specs.Events.{is_counted, undone_by, event_at, events_at, events_from, IsLog, counted_leaves}
+use Rattle.flow_export.specs.Events.{is_counted, undone_by, events_at, events_from, IsLog, counted_leaves}
 
 abbrev leaf_in : Doing → ℕ
 leaf_in d = d.leaf

@@ -1,5 +1,4 @@
 use Rattle.std.proofs.Common.{◌≡◌, ◌++◌, ◌∷◌, [], IfOk, subst, ◌∙◌}
-use Rattle.csv.specs.Records.{fields_of}
 use Rattle.flow_export.specs.Rows.{csv_record}
 use Rattle.flow_export.proofs.csv_form.csv_head.Goals as goal
 

@@ -1,4 +1,4 @@
-use Rattle.std.proofs.Common.{◌≡◌, refl, sym, ap, ◌∙◌}
+use Rattle.std.proofs.Common.{refl, ◌∙◌}
 use Rattle.flow_core.specs.Run.{schema}
 use Rattle.flow_standing.specs.Following.{leaves_given, leaf_numbered}
 use Rattle.flow_standing.proofs.Trails.{leaves_told}

@@ -1,4 +1,4 @@
-use Rattle.std.proofs.Common.{◌≡◌, ◌++◌, take, filter_map, get_or, refl, sym, ap, ◌∙◌, append_assoc}
+use Rattle.std.proofs.Common.{◌++◌, take, filter_map, get_or, refl, sym, ap, ◌∙◌, append_assoc}
 use Rattle.flow_standing.specs.declared.undone.TakenBack.{TakenBack}
 use Rattle.flow_standing.proofs.Fronts.{element}
 use Rattle.flow_export.specs.Events.{listed, undone_by}

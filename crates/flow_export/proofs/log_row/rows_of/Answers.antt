@@ -1,6 +1,4 @@
-use Rattle.std.proofs.Common.{◌≡◌, map, ap, ◌∙◌}
-use Rattle.flow_core.specs.Run.{Run}
-use Rattle.flow_workflow.specs.Definition.{Definition}
+use Rattle.std.proofs.Common.{map, ◌∙◌}
 use Rattle.flow_export.specs.Rows.{row_at}
 use Rattle.flow_export.proofs.log_row.rows_of.Goals as goal
 

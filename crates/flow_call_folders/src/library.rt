@@ -1,46 +1,47 @@
-//! Cases whose lines are told: texts that cases share are read once. Files are only read, and no lock is taken.
+//! Cases that are looked at, as their files are when they are read: nothing is written, no lock is taken, and writers go on. Texts that
+//! cases share are read once.
 
 use flow_case_begin::CaseStop;
 use flow_case_files::{ENTRIES, FolderFault, TRAIL, read_case};
 use flow_case_seen::{SharedTexts, read_texts};
-use flow_list::{CaseLine, line_of_files};
 use flow_trail::first_seal;
 use std::alloc::{AllocError, Global};
 use std::fs::{self, File};
 use std::rt::Files;
 use std::thread::{Threads, for_each_mut};
 
-/// Why a case has no line.
+/// Why a case is not looked at.
 #[derive(Drop)]
-pub(crate) enum Unlisted {
+pub(crate) enum Unseen {
+    /// Why, in words.
     Damaged(String),
     NoMemory,
 }
 
-impl From<AllocError> for Unlisted {
-    fn from(_error: AllocError) -> Unlisted {
-        Unlisted::NoMemory
+impl From<AllocError> for Unseen {
+    fn from(_error: AllocError) -> Unseen {
+        Unseen::NoMemory
     }
 }
 
 /// Why a folder is not read, in words.
-fn why_unread(alloc: Global, fault: &FolderFault) -> Unlisted {
+fn why_unread(alloc: Global, fault: &FolderFault) -> Unseen {
     let words = match fault {
         FolderFault::NoCase(name) => {
             format!(in alloc; "it is no case: there is no file {name} in it")
         }
         FolderFault::System(error) => format!(in alloc; "{error}"),
-        FolderFault::NoMemory => return Unlisted::NoMemory,
+        FolderFault::NoMemory => return Unseen::NoMemory,
         FolderFault::Exists | FolderFault::InUse => format!(in alloc; "it cannot be read"),
     };
     match words {
-        Ok(words) => Unlisted::Damaged(words),
-        Err(AllocError) => Unlisted::NoMemory,
+        Ok(words) => Unseen::Damaged(words),
+        Err(AllocError) => Unseen::NoMemory,
     }
 }
 
 /// Why files are no case's, in words.
-fn why_stopped(alloc: Global, stop: &CaseStop) -> Unlisted {
+pub(crate) fn why_stopped(alloc: Global, stop: &CaseStop) -> Unseen {
     let words = match stop {
         CaseStop::Workflow(_) => format!(in alloc; "the workflow is refused"),
         CaseStop::Policy(refusal) => format!(in alloc; "the policy is refused: {refusal}"),
@@ -50,11 +51,11 @@ fn why_stopped(alloc: Global, stop: &CaseStop) -> Unlisted {
         }
         CaseStop::Trail(refusal) => format!(in alloc; "{refusal}"),
         CaseStop::Disk => format!(in alloc; "run.keep has more entries than a case may have"),
-        CaseStop::NoMemory => return Unlisted::NoMemory,
+        CaseStop::NoMemory => return Unseen::NoMemory,
     };
     match words {
-        Ok(words) => Unlisted::Damaged(words),
-        Err(AllocError) => Unlisted::NoMemory,
+        Ok(words) => Unseen::Damaged(words),
+        Err(AllocError) => Unseen::NoMemory,
     }
 }
 
@@ -99,7 +100,7 @@ fn seals_of<R: Files<File = File> + AllocGlobal + Threads + Sync>(
 }
 
 /// Texts that cases share, or why they are refused.
-pub(crate) type Read = Result<SharedTexts, CaseStop>;
+type Read = Result<SharedTexts, CaseStop>;
 
 /// The texts of the cases, each read once.
 #[derive(Drop)]
@@ -140,7 +141,7 @@ fn place_of<R: Files<File = File> + AllocGlobal>(
 }
 
 /// The texts of the cases, by what their trails begin.
-fn library_of<R: Files<File = File> + AllocGlobal>(
+fn texts_of<R: Files<File = File> + AllocGlobal>(
     rt: &R,
     cases: &[String],
     begun: &[Begun],
@@ -160,12 +161,22 @@ fn library_of<R: Files<File = File> + AllocGlobal>(
     Ok(library)
 }
 
+/// Reads the texts of the cases. Several threads look for them.
+pub(crate) fn library_of<R: Files<File = File> + AllocGlobal + Threads + Sync>(
+    rt: &R,
+    cases: &[String],
+    jobs: u32,
+) -> Result<Library, AllocError> {
+    let begun = seals_of(rt, cases, jobs)?;
+    texts_of(rt, cases, &begun)
+}
+
 /// A file of a case, as it is now.
 fn read_file<R: Files<File = File> + AllocGlobal>(
     rt: &R,
     case: &str,
     name: &str,
-) -> Result<Vec<u8>, Unlisted> {
+) -> Result<Vec<u8>, Unseen> {
     let alloc = rt.alloc();
     let path = format!(in alloc; "{case}/{name}")?;
     match fs::read(rt, path.as_str()) {
@@ -175,57 +186,45 @@ fn read_file<R: Files<File = File> + AllocGlobal>(
 }
 
 /// Why the texts of a case are not read.
-fn why_none<R: Files<File = File> + AllocGlobal>(rt: &R, case: &str) -> Unlisted {
+fn why_none<R: Files<File = File> + AllocGlobal>(rt: &R, case: &str) -> Unseen {
     match read_case(rt, case) {
         Ok(_) => why_unread(rt.alloc(), &FolderFault::InUse),
         Err(fault) => why_unread(rt.alloc(), &fault),
     }
 }
 
-/// The texts of the cases, each read once. Several threads look for them.
-pub(crate) fn read_library<R: Files<File = File> + AllocGlobal + Threads + Sync>(
-    rt: &R,
-    cases: &[String],
-    jobs: u32,
-) -> Result<Library, AllocError> {
-    let begun = seals_of(rt, cases, jobs)?;
-    library_of(rt, cases, &begun)
-}
-
 impl Library {
-    /// The texts of the case at a place, if they are read.
-    pub(crate) fn texts_at(&self, place: usize) -> Option<&Read> {
+    /// The texts of the case at a place.
+    pub(crate) fn texts_at<R: Files<File = File> + AllocGlobal>(
+        &self,
+        rt: &R,
+        place: usize,
+        case: &str,
+    ) -> Result<&SharedTexts, Unseen> {
         match self.places.get(place) {
-            Some(Some(texts)) => self.texts.get(*texts),
-            _ => None,
+            Some(Some(texts)) => match self.texts.get(*texts) {
+                Some(Ok(texts)) => Ok(texts),
+                Some(Err(stop)) => Err(why_stopped(rt.alloc(), stop)),
+                None => Err(why_none(rt, case)),
+            },
+            _ => Err(why_none(rt, case)),
         }
     }
 }
 
-/// The texts of the case at a place; else why they are not read.
-pub(crate) fn texts_for<'a, R: Files<File = File> + AllocGlobal>(
-    rt: &R,
-    library: &'a Library,
-    place: usize,
-    case: &str,
-) -> Result<&'a SharedTexts, Unlisted> {
-    match library.texts_at(place) {
-        Some(Ok(texts)) => Ok(texts),
-        Some(Err(stop)) => Err(why_stopped(rt.alloc(), stop)),
-        None => Err(why_none(rt, case)),
-    }
+/// The files of a case that change.
+#[derive(Drop)]
+pub(crate) struct CaseFiles {
+    pub(crate) entries: Vec<u8>,
+    pub(crate) trail: Vec<u8>,
 }
 
-/// The line of the case. Its entries are read before its trail, so that no entry is read whose line is not.
-pub(crate) fn line_now<R: Files<File = File> + AllocGlobal>(
+/// Reads the files of a case. Its entries are read before its trail, so that no entry is read whose line is not.
+pub(crate) fn files_of<R: Files<File = File> + AllocGlobal>(
     rt: &R,
-    texts: &SharedTexts,
     case: &str,
-) -> Result<CaseLine, Unlisted> {
+) -> Result<CaseFiles, Unseen> {
     let entries = read_file(rt, case, ENTRIES)?;
     let trail = read_file(rt, case, TRAIL)?;
-    match line_of_files(rt.alloc(), texts, entries, &trail) {
-        Ok(line) => Ok(line),
-        Err(stop) => Err(why_stopped(rt.alloc(), &stop)),
-    }
+    Ok(CaseFiles { entries, trail })
 }
