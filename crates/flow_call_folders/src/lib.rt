@@ -4,7 +4,6 @@
 mod exported;
 mod lines;
 mod listed;
-mod named;
 mod paged;
 mod seen;
 

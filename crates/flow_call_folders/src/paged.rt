@@ -1,7 +1,6 @@
 //! The page of a folder of cases. Files are only read, and no lock is taken.
 
 use crate::lines::{Library, Unlisted, line_now, read_library, texts_for};
-use crate::named::folder_case;
 use crate::seen::cases_in;
 use clap::ArgMatches;
 use flow_call::{
@@ -9,7 +8,7 @@ use flow_call::{
 };
 use flow_call_cases::stamp;
 use flow_facts::Name;
-use flow_folder_page::{DamagedCase, Folder, FolderCase, folder_page};
+use flow_folder_page::{DamagedCase, Folder, FolderCase, folder_case, folder_page};
 use flow_page::print_page;
 use std::alloc::{AllocError, Global};
 use std::fs::File;

@@ -6,10 +6,12 @@ mod cells;
 mod data;
 mod free;
 mod held;
+mod lines;
 mod shown;
 mod stand;
 mod stuck;
 mod waits;
 
 pub use data::{DamagedCase, FolderCase, OpenTask, TaskHeld};
+pub use lines::folder_case;
 pub use shown::{Folder, folder_page};
