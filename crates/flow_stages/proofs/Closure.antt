@@ -91,7 +91,7 @@ place_of (y ∷ list) x (inr m) = let (k, within, at) = place_of list x m in (su
 pub not_open : (l : Look) → (l ≡ look.Open → ⊥) → IsOpen l → ⊥
 not_open look.Open other going = other refl
 not_open look.Hopeless other going = going
-not_open (look.Shown takers event) other going = going
+not_open (look.Shown leaves takers event) other going = going
 not_open look.Spent other going = going
 
 -- what is so of an answer, where there is one

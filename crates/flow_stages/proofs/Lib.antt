@@ -1,7 +1,9 @@
 pub mod Loops
 pub mod TieLemmas
 pub mod TryingLemmas
+pub mod TogetherLemmas
 pub mod StageLemmas
 pub mod LookLemmas
 pub mod Closure
+pub mod ReachedLemmas
 pub mod Histories
