@@ -2,6 +2,7 @@ pub mod Loops
 pub mod TieLemmas
 pub mod TryingLemmas
 pub mod TogetherLemmas
+pub mod NearLemmas
 pub mod StageLemmas
 pub mod LookLemmas
 pub mod Closure

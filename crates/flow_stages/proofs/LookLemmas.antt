@@ -116,9 +116,11 @@ pub unmanned_shown : (w : Schema) (d : Duties) (p : Planned) (question : Questio
 unmanned_shown w d p question node events takers event leaf looked may of fits none = record {
   run = looked.reached.run;
   fits = fits_after w d question Anybody node.leaves.items events (taker_by takers) (ap wanted_by looked.unmanned) looked.are fits;
-  so = subst (λ (q : Question). IsSo w d p q node.leaves.items (taker_by takers) event) (sym looked.unmanned)
-      ((leaf, may, of), λ some. none (somebody_as d event (IsEventOf w node.leaves.items) (λ e. e ∈ events) (taker_by takers) (λ f m.
-      ⊎_elim (λ named. absurd named) (λ e. e) (subst (λ (q : Question). IsToHave w q node.leaves.items f) looked.unmanned ((looked.are f).0 m))) some));
+  so = subst (λ (q : Question). IsSo w d p q node.leaves.items (taker_by takers) event) (sym looked.unmanned) (
+    (leaf, may, of),
+    λ some. none (somebody_as d event (IsEventOf w node.leaves.items) (λ e. e ∈ events) (taker_by takers) (λ f m.
+        ⊎_elim (λ named. absurd named) (λ e. e) (subst (λ (q : Question). IsToHave w q node.leaves.items f) looked.unmanned ((looked.are f).0 m))) some),
+  );
 }
 
 -- what is shown of one user who has both

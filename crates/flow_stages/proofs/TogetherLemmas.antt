@@ -1,5 +1,5 @@
 -- Takers who may have their events, each beside each.
-use Rattle.std.proofs.Common.{◌≡◌, ◌≢◌, ◌==◌, ◌≤◌, ◌⊎◌, ℕ, Bool, true, false, List, [], ◌∷◌, ◌++◌, length, inl, inr, ⊎_elim, refl, sym, ap, subst, ◌∙◌}
+use Rattle.std.proofs.Common.{◌≡◌, ◌≢◌, ◌==◌, ◌≤◌, ◌⊎◌, ℕ, Bool, true, false, List, [], ◌∷◌, ◌++◌, length, inl, inr, ⊎_elim, refl, sym, ap, subst, ◌∙◌, true≢false}
 use Rattle.std.proofs.lemmas.Bool.{cases_Bool, eqb-true, eq-eqb}
 use Rattle.flow_model.specs.Duties.{Duties, HasRole, IsConstraintOf}
 use Rattle.flow_model.specs.Lists.{◌∈◌, Each}
@@ -70,7 +70,7 @@ first_there (x ∷ taken) t e m is = elim (cases_Bool (x.0 == e)) [
 ]
   where
     differ : (x.0 == e) ≡ false → x.0 ≡ e → ⊥
-    differ no same = let yes : (x.0 == e) ≡ true = eq-eqb x.0 e same in let both : true ≡ false = sym yes ∙ no in cc
+    differ off same = true≢false (sym (eq-eqb x.0 e same) ∙ off)
 
 module _ (d : Duties) (wanted : Wanted) (events : List ℕ) (taken : List (ℕ × ℕ)) (first : AreOfFirst events taken) (all : length events ≤ length taken) (are : AreTogether d wanted taken) where
   there : (e : ℕ) → e ∈ events → (e, taker_by taken e) ∈ taken

@@ -4,7 +4,7 @@ ghost use Rattle.flow_model.specs.Duties.{Duties, IsConstraintOf};
 ghost use Rattle.flow_model.specs.Lists.{◌∈◌};
 ghost use Rattle.flow_policy.specs.declared.tie.Tie.{Tie};
 ghost use Rattle.flow_stages.specs.declared.staffing.Filled.TheVariants as fill;
-ghost use Rattle.flow_stages.specs.declared.staffing.Step.TheVariants as step;
+ghost use Rattle.flow_stages.specs.declared.staffing.Step.TheVariants as stepped;
 ghost use Rattle.flow_stages.specs.declared.wanted.Wanted.{Wanted};
 ghost use Rattle.flow_stages.specs.declared.wanted.Wanted.TheVariants.{Anybody};
 ghost use Rattle.flow_stages.specs.Fitting.{HoldsRoles, GoesWith, MayHave, Fits, HasSomebody, Misses, MissesBy, AreUntied, IsFar, taker_by};
@@ -59,7 +59,7 @@ fn back(taken: &mut Vec<(u32, u32)>) -> Step
     ensures first { (events : List ℕ) → AreOfFirst events taken.old.items → AreOfFirst events taken.new.items }
     ensures remains { (events : List ℕ) (to : ℕ → ℕ) → AreOfFirst events taken.old.items → ComesAt taken.old.items ⊥ to → RemainsAt events taken.new.items to result }
     ensures together { (d : Duties) (wanted : Wanted) → AreTogether d wanted taken.old.items → AreTogether d wanted taken.new.items }
-    ensures going { ¬ (result ≡ step.Found) }
+    ensures going { ¬ (result ≡ stepped.Found) }
 {
     match taken.pop() {
         Some((_, user)) => Step::On(user.saturating_add(1)),
@@ -122,13 +122,26 @@ impl Staff<'_> {
         None
     }
 
+    /// Whether nobody may have the event beside the events that have takers.
+    fn nobody_may_have(&self, taken: &[(u32, u32)], event: u32) -> bool
+        requires { HoldsRoles self.now.policy.now.duties self.now.users }
+        ensures nobody { IsTrue result → (user : ℕ) → ¬ (MayHave self.now.policy.now.duties Anybody taken.now event user) }
+        ensures somebody { result ≡ false → (user : ℕ) × MayHave self.now.policy.now.duties Anybody taken.now event user }
+    {
+        match self.next_user(Wanted::Anybody, taken, event, 0) {
+            Some(_) => false,
+            None => true,
+        }
+    }
+
     /// Whether that is so of the takers for all events that was asked.
     fn is_end(&self, wanted: Wanted, taken: &[(u32, u32)]) -> bool
+        requires { HoldsRoles self.now.policy.now.duties self.now.users }
         ensures missed { result ≡ false → MissesBy self.now.policy.now.duties wanted taken.now }
         ensures met { IsTrue result → ¬ (MissesBy self.now.policy.now.duties wanted taken.now) }
     {
         match wanted {
-            Wanted::NobodyFor(event) => self.next_user(Wanted::Anybody, taken, event, 0).is_none(),
+            Wanted::NobodyFor(event) => self.nobody_may_have(taken, event),
             Wanted::Anybody | Wanted::OneFor(_, _) => true,
         }
     }
@@ -147,7 +160,7 @@ impl Staff<'_> {
             Fits self.now.policy.now.duties wanted (λ e. e ∈ events) to → IsToCome events taken.old.items from to →
             IfOk result (RemainsAt events taken.new.items to) }
         ensures together { AreTogether self.now.policy.now.duties wanted taken.old.items → AreTogether self.now.policy.now.duties wanted taken.new.items }
-        ensures going { IfOk result (λ step. ¬ (step ≡ step.Found)) }
+        ensures going { IfOk result (λ step. ¬ (step ≡ stepped.Found)) }
     {
         match self.next_user(wanted, taken, event, from) {
             Some(user) => {
@@ -205,6 +218,14 @@ impl Staff<'_> {
         Ok((near, count))
     }
 
+    /// Whether so many events have takers, and these are not what is wanted.
+    fn is_missed(&self, wanted: Wanted, near: usize, taken: &[(u32, u32)]) -> bool
+        requires { HoldsRoles self.now.policy.now.duties self.now.users }
+        ensures { IsTrue result → (length taken.now ≡ near) × MissesBy self.now.policy.now.duties wanted taken.now }
+    {
+        taken.len() == near && !self.is_end(wanted, taken)
+    }
+
     /// Gives the next event a taker, looked for from that number on; or takes the last taker back. Once so many events have takers, no
     /// further taker bears on what is wanted.
     fn step(
@@ -222,9 +243,9 @@ impl Staff<'_> {
         ensures remains { (to : ℕ → ℕ) → Fits self.now.policy.now.duties wanted (λ e. e ∈ events.now) to → IsToCome events.now taken.old.items from to →
             IfOk result (λ step. Misses self.now.policy.now.duties wanted (λ e. e ∈ events.now) to ⊎ RemainsAt events.now taken.new.items to step) }
         ensures together { AreTogether self.now.policy.now.duties wanted taken.old.items → AreTogether self.now.policy.now.duties wanted taken.new.items }
-        ensures found { IfOk result (λ step. step ≡ step.Found → (length events.now ≤ length taken.new.items) × ¬ (MissesBy self.now.policy.now.duties wanted taken.new.items)) }
+        ensures found { IfOk result (λ step. step ≡ stepped.Found → (length events.now ≤ length taken.new.items) × ¬ (MissesBy self.now.policy.now.duties wanted taken.new.items)) }
     {
-        if taken.len() == near && !self.is_end(wanted, taken) {
+        if self.is_missed(wanted, near, taken) {
             return Ok(back(taken));
         }
         match events.get(taken.len()) {

@@ -41,6 +41,6 @@ follow_all-requires c =
     let here = ap (λ l. slice_get l c.args.place) (sym c.deref.ensures.value) ∙ read in
     let reached = reached_at w p c.args.nodes.now.items c.args.place c.in-Some.node.now c.requires.reached here in
     let next = λ (node : Node) (n : ℕ) (at : slice_get c.args.nodes.now.items c.args.place ≡ Some node) (there : IsTrue (has_leaf c.next_row-row.result n)).
-        let is : c.in-Some.node.now ≡ node = some_same c.in-Some.node.now node (sym here ∙ at) in
-        subst (λ (m : Node). MayComeNext p (λ x. x ∈ m.leaves.items) n) is ((c.next_row-row.ensures c.in-Some.node.now.leaves.items n reached.after.done).0 there) in
+    let is : c.in-Some.node.now ≡ node = some_same c.in-Some.node.now node (sym here ∙ at) in
+    subst (λ (m : Node). MayComeNext p (λ x. x ∈ m.leaves.items) n) is ((c.next_row-row.ensures c.in-Some.node.now.leaves.items n reached.after.done).0 there) in
     ?

@@ -44,5 +44,5 @@ reach-requires-in-Some-2 c =
     let read = slice_get_read c.deref.result.now _ c.args.place c.in-Some.node.now refl within same in
     let at = ap (λ l. slice_get l c.args.place) (sym c.deref.ensures.value) ∙ read in
     let next = subst (λ o. IfSome o (IsReached w p)) c.in-Some-2.is
-        (c.in_ok-node_after.ensures.reached (reached_at w p c.args.nodes.now.items c.args.place c.in-Some.node.now c.requires.reached at) (c.requires.next c.in-Some.node.now at)) in
+    (c.in_ok-node_after.ensures.reached (reached_at w p c.args.nodes.now.items c.args.place c.in-Some.node.now c.requires.reached at) (c.requires.next c.in-Some.node.now at)) in
     ?
