@@ -6,7 +6,7 @@ use Rattle.flow_model.proofs.Lists.{mem-append, mem_append_left, mem_append_righ
 
 -- one event more, to the one list or to the other
 module _ (events near far : List ℕ) (k : ℕ) (within : k < length events) (all : (f : ℕ) → (f ∈ take k events) ↔ ((f ∈ near) ⊎ (f ∈ far))) where
-  x : List ℕ
+  abbrev x : List ℕ
   x = get_or events k 0 ∷ []
 
   more : take (k + 1) events ≡ take k events ++ x

@@ -24,7 +24,7 @@ pub run_more : (w : Schema) (p : Planned) (list : List ℕ) (leaf : ℕ) → IsR
     HoldsAt w.labels (replay w.labels (start_of w) list) leaf → IsRunOf w p (list ++ leaf ∷ [])
 run_more w p list leaf run may holds = record {
   ready = (run-append (folded_by_step p.process (pairs_of p.tokens)) (λ x. ⊥) list (leaf ∷ [])).1
-      (run.ready, next_as p (λ x. x ∈ list) (DoneOr (λ x. ⊥) list) leaf (λ x. (λ m. inr m, λ d. ⊎_elim (λ none. absurd none) (λ m. m) d)) may, tt);
+      (run.ready, (next_as p (λ x. x ∈ list) (DoneOr (λ x. ⊥) list) leaf (λ x. (λ m. inr m, λ d. ⊎_elim (λ none. absurd none) (λ m. m) d)) may, tt));
   runs = runs-append w.labels (start_of w) list (leaf ∷ []) run.runs (holds, tt);
 }
 

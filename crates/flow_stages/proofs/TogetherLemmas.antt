@@ -62,11 +62,17 @@ together_less d wanted taken rest are = record {
 
 -- ---- who takes an event
 
+taker_here : (x : ℕ × ℕ) (taken : List (ℕ × ℕ)) (e : ℕ) → (x.0 == e) ≡ true → taker_by (x ∷ taken) e ≡ x.1
+taker_here x taken e here = rw here refl
+
+taker_later : (x : ℕ × ℕ) (taken : List (ℕ × ℕ)) (e : ℕ) → (x.0 == e) ≡ false → taker_by (x ∷ taken) e ≡ taker_by taken e
+taker_later x taken e other = rw other refl
+
 first_there : (taken : List (ℕ × ℕ)) (t : ℕ × ℕ) (e : ℕ) → t ∈ taken → t.0 ≡ e → (e, taker_by taken e) ∈ taken
 first_there [] t e m is = absurd m
 first_there (x ∷ taken) t e m is = elim (cases_Bool (x.0 == e)) [
-  | inl here ↦ (let same : x.0 ≡ e = eqb-true x.0 e here in rw here (inl (ap (λ k. (k, x.1)) (sym same))))
-  | inr other ↦ rw other (inr (first_there taken t e (⊎_elim (λ it. absurd (differ other (ap (λ (p : ℕ × ℕ). p.0) (sym it) ∙ is))) (λ k. k) m) is))
+  | inl here ↦ (let same : x.0 ≡ e = eqb-true x.0 e here in inl (ap (λ u. (e, u)) (taker_here x taken e here) ∙ ap (λ k. (k, x.1)) (sym same)))
+  | inr other ↦ inr (subst (λ u. (e, u) ∈ taken) (sym (taker_later x taken e other)) (first_there taken t e (⊎_elim (λ it. absurd (differ other (ap (λ (p : ℕ × ℕ). p.0) (sym it) ∙ is))) (λ k. k) m) is))
 ]
   where
     differ : (x.0 == e) ≡ false → x.0 ≡ e → ⊥

@@ -68,6 +68,13 @@ IsTold w d p question left look.Hopeless = Unit {0}
 IsTold w d p question left (look.Shown leaves takers event) = IsShown w d p question leaves.items takers.items event
 IsTold w d p question left look.Spent = left ≡ 0
 
+-- the same of a search that went on, which tells of no stage that it is hopeless
+abbrev pub IsToldOn : Schema → Duties → Planned → Question → ℕ → Look → Type 0
+IsToldOn w d p question left look.Open = Unit {0}
+IsToldOn w d p question left look.Hopeless = ⊥
+IsToldOn w d p question left (look.Shown leaves takers event) = IsShown w d p question leaves.items takers.items event
+IsToldOn w d p question left look.Spent = left ≡ 0
+
 -- the events are those that are to have takers at a stage that was reached, where it is asked of an event that nobody may take
 pub record IsLookedAt (w : Schema) (p : Planned) (question : Question) (node : Node) (events : List ℕ) : Type 0 where
   pub reached : IsReached w p node

@@ -80,6 +80,16 @@ impl Search<'_> {
         false
     }
 
+    /// Whether leaves of both events are done.
+    fn are_done(&self, stage: &Stage, one: u32, two: u32) -> bool
+        ensures out { (list : List ℕ) → IsAfter (schema_of self.now.workflow.now) list stage.now → result ≡ false →
+            ¬ (IsEventOf (schema_of self.now.workflow.now) list one × IsEventOf (schema_of self.now.workflow.now) list two) }
+        ensures done { (list : List ℕ) → IsAfter (schema_of self.now.workflow.now) list stage.now → IsTrue result →
+            IsEventOf (schema_of self.now.workflow.now) list one × IsEventOf (schema_of self.now.workflow.now) list two }
+    {
+        self.is_done(stage, one) && self.is_done(stage, two)
+    }
+
     /// That one user can have both events at the stage, where both are done.
     fn shown_for_both(
         &self,
@@ -95,7 +105,7 @@ impl Search<'_> {
             FitsAfter (schema_of self.now.workflow.now) self.now.staff.policy.now.duties self.now.question node.now.leaves.items (taker_by takers.items) →
             IfOk result (IsTold (schema_of self.now.workflow.now) self.now.staff.policy.now.duties self.now.plan.now self.now.question left) }
     {
-        if self.is_done(&node.stage, one) && self.is_done(&node.stage, two) {
+        if self.are_done(&node.stage, one, two) {
             node.shown(takers, one)
         } else {
             drop(takers);

@@ -47,7 +47,8 @@ pub fn search_options(
             question,
         };
         match search.run(alloc, states)? {
-            Look::Open | Look::Hopeless => {}
+            Look::Open => {}
+            Look::Hopeless => unreachable!(),
             Look::Spent => return Ok(Searched::Spent),
             Look::Shown(leaves, takers, event) => {
                 return Ok(Searched::Shown {

@@ -1,5 +1,5 @@
 //! The stages of an option, looked at in turn.
-ghost use Rattle.std.specs.Prelude.{◌≡◌, ◌<◌, ◌≤◌, ◌⊎◌, ◌++◌, ◌∷◌, [], ℕ, List, Some, IsTrue, IfOk, IfNone, IfSome, length, slice_get};
+ghost use Rattle.std.specs.Prelude.{◌≡◌, ◌<◌, ◌≤◌, ◌++◌, ◌∷◌, [], ℕ, List, Some, IsTrue, IfOk, IfNone, IfSome, length, slice_get};
 ghost use Rattle.leaf_rows.specs.Leaves.{has_leaf};
 ghost use Rattle.flow_model.specs.declared.limits.TheConstants.{MOST_LEAVES};
 ghost use Rattle.flow_model.specs.Facts.{HoldsAt, replay};
@@ -12,7 +12,7 @@ ghost use Rattle.flow_plan.specs.Orders.{MayComeNext};
 ghost use Rattle.flow_stages.specs.declared.nodes.Node.{Node};
 ghost use Rattle.flow_stages.specs.Asked.{IsNeverSo};
 ghost use Rattle.flow_stages.specs.Fitting.{HoldsRoles};
-ghost use Rattle.flow_stages.specs.Listed.{IsCovered, IsQuiet, AreQuiet, IsFollowed, IsOpen, IsHopelessLook, IsReached, AreReached, IsTold};
+ghost use Rattle.flow_stages.specs.Listed.{IsCovered, IsQuiet, AreQuiet, IsFollowed, IsOpen, IsReached, AreReached, IsToldOn};
 ghost use Rattle.flow_stages.specs.Stages.{IsAfter};
 
 use crate::nodes::{Node, is_known};
@@ -128,7 +128,7 @@ impl Search<'_> {
         requires new { IsReached (schema_of self.now.workflow.now) self.now.plan.now node }
         ensures grows { Begins nodes.new.items nodes.old.items }
         ensures reached { AreReached (schema_of self.now.workflow.now) self.now.plan.now nodes.new.items }
-        ensures told { IfOk result (IsTold (schema_of self.now.workflow.now) self.now.staff.policy.now.duties self.now.plan.now self.now.question states.new) }
+        ensures told { IfOk result (IsToldOn (schema_of self.now.workflow.now) self.now.staff.policy.now.duties self.now.plan.now self.now.question states.new) }
         ensures fewer { states.new ≤ states.old }
         ensures quiet { IfOk result (λ look. IsOpen look → AreQuiet (schema_of self.now.workflow.now) self.now.staff.policy.now.duties self.now.plan.now self.now.question nodes.old.items →
             AreQuiet (schema_of self.now.workflow.now) self.now.staff.policy.now.duties self.now.plan.now self.now.question nodes.new.items) }
@@ -163,7 +163,7 @@ impl Search<'_> {
         requires reached { AreReached (schema_of self.now.workflow.now) self.now.plan.now nodes.old.items }
         ensures grows { Begins nodes.new.items nodes.old.items }
         ensures reached { AreReached (schema_of self.now.workflow.now) self.now.plan.now nodes.new.items }
-        ensures told { IfOk result (IsTold (schema_of self.now.workflow.now) self.now.staff.policy.now.duties self.now.plan.now self.now.question states.new) }
+        ensures told { IfOk result (IsToldOn (schema_of self.now.workflow.now) self.now.staff.policy.now.duties self.now.plan.now self.now.question states.new) }
         ensures fewer { states.new ≤ states.old }
         ensures quiet { IfOk result (λ look. IsOpen look → AreQuiet (schema_of self.now.workflow.now) self.now.staff.policy.now.duties self.now.plan.now self.now.question nodes.old.items →
             AreQuiet (schema_of self.now.workflow.now) self.now.staff.policy.now.duties self.now.plan.now self.now.question nodes.new.items) }
@@ -198,7 +198,7 @@ impl Search<'_> {
         requires reached { AreReached (schema_of self.now.workflow.now) self.now.plan.now nodes.old.items }
         ensures grows { Begins nodes.new.items nodes.old.items }
         ensures reached { AreReached (schema_of self.now.workflow.now) self.now.plan.now nodes.new.items }
-        ensures told { IfOk result (IsTold (schema_of self.now.workflow.now) self.now.staff.policy.now.duties self.now.plan.now self.now.question states.new) }
+        ensures told { IfOk result (IsToldOn (schema_of self.now.workflow.now) self.now.staff.policy.now.duties self.now.plan.now self.now.question states.new) }
         ensures fewer { states.new ≤ states.old }
         ensures quiet { IfOk result (λ look. IsOpen look → AreQuiet (schema_of self.now.workflow.now) self.now.staff.policy.now.duties self.now.plan.now self.now.question nodes.old.items →
             AreQuiet (schema_of self.now.workflow.now) self.now.staff.policy.now.duties self.now.plan.now self.now.question nodes.new.items) }
@@ -230,7 +230,7 @@ impl Search<'_> {
         requires next { (node : Node) (n : ℕ) → slice_get nodes.old.items place ≡ Some node → IsTrue (has_leaf row.now n) → MayComeNext self.now.plan.now (λ x. x ∈ node.leaves.items) n }
         ensures grows { Begins nodes.new.items nodes.old.items }
         ensures reached { AreReached (schema_of self.now.workflow.now) self.now.plan.now nodes.new.items }
-        ensures told { IfOk result (IsTold (schema_of self.now.workflow.now) self.now.staff.policy.now.duties self.now.plan.now self.now.question states.new) }
+        ensures told { IfOk result (IsToldOn (schema_of self.now.workflow.now) self.now.staff.policy.now.duties self.now.plan.now self.now.question states.new) }
         ensures fewer { states.new ≤ states.old }
         ensures quiet { IfOk result (λ look. IsOpen look → AreQuiet (schema_of self.now.workflow.now) self.now.staff.policy.now.duties self.now.plan.now self.now.question nodes.old.items →
             AreQuiet (schema_of self.now.workflow.now) self.now.staff.policy.now.duties self.now.plan.now self.now.question nodes.new.items) }
@@ -261,7 +261,7 @@ impl Search<'_> {
         requires reached { AreReached (schema_of self.now.workflow.now) self.now.plan.now nodes.old.items }
         ensures grows { Begins nodes.new.items nodes.old.items }
         ensures reached { AreReached (schema_of self.now.workflow.now) self.now.plan.now nodes.new.items }
-        ensures told { IfOk result (IsTold (schema_of self.now.workflow.now) self.now.staff.policy.now.duties self.now.plan.now self.now.question states.new) }
+        ensures told { IfOk result (IsToldOn (schema_of self.now.workflow.now) self.now.staff.policy.now.duties self.now.plan.now self.now.question states.new) }
         ensures fewer { states.new ≤ states.old }
         ensures quiet { IfOk result (λ look. IsOpen look → AreQuiet (schema_of self.now.workflow.now) self.now.staff.policy.now.duties self.now.plan.now self.now.question nodes.old.items →
             AreQuiet (schema_of self.now.workflow.now) self.now.staff.policy.now.duties self.now.plan.now self.now.question nodes.new.items) }
@@ -287,7 +287,7 @@ impl Search<'_> {
         requires reached { AreReached (schema_of self.now.workflow.now) self.now.plan.now nodes.old.items }
         ensures grows { Begins nodes.new.items nodes.old.items }
         ensures reached { AreReached (schema_of self.now.workflow.now) self.now.plan.now nodes.new.items }
-        ensures told { IfOk result (IsTold (schema_of self.now.workflow.now) self.now.staff.policy.now.duties self.now.plan.now self.now.question states.new) }
+        ensures told { IfOk result (IsToldOn (schema_of self.now.workflow.now) self.now.staff.policy.now.duties self.now.plan.now self.now.question states.new) }
         ensures fewer { states.new ≤ states.old }
         ensures quiet { IfOk result (λ look. IsOpen look → AreQuiet (schema_of self.now.workflow.now) self.now.staff.policy.now.duties self.now.plan.now self.now.question nodes.old.items →
             AreQuiet (schema_of self.now.workflow.now) self.now.staff.policy.now.duties self.now.plan.now self.now.question nodes.new.items) }
@@ -307,6 +307,8 @@ impl Search<'_> {
                 look => return Ok(look),
             }
         }
+        // no search has so many states
+        *states = 0;
         Ok(Look::Spent)
     }
 
@@ -318,7 +320,7 @@ impl Search<'_> {
         requires reached { IsReached (schema_of self.now.workflow.now) self.now.plan.now node }
         requires quiet { IsQuiet (schema_of self.now.workflow.now) self.now.staff.policy.now.duties self.now.plan.now self.now.question node.stage }
         ensures never { IfOk result (λ look. IsOpen look → IsNeverSo (schema_of self.now.workflow.now) self.now.staff.policy.now.duties self.now.plan.now self.now.question) }
-        ensures told { IfOk result (IsTold (schema_of self.now.workflow.now) self.now.staff.policy.now.duties self.now.plan.now self.now.question states.new) }
+        ensures told { IfOk result (IsToldOn (schema_of self.now.workflow.now) self.now.staff.policy.now.duties self.now.plan.now self.now.question states.new) }
         ensures fewer { states.new ≤ states.old }
     {
         let mut nodes = Vec::new(alloc);
@@ -342,13 +344,14 @@ impl Search<'_> {
     pub(crate) fn run(&self, alloc: Global, states: &mut u64) -> Result<Look, AllocError>
         requires folds { AreFoldRows self.now.plan.now.process self.now.folds.now }
         requires roles { HoldsRoles self.now.staff.policy.now.duties self.now.staff.users }
-        ensures never { IfOk result (λ look. IsOpen look ⊎ IsHopelessLook look → IsNeverSo (schema_of self.now.workflow.now) self.now.staff.policy.now.duties self.now.plan.now self.now.question) }
-        ensures told { IfOk result (IsTold (schema_of self.now.workflow.now) self.now.staff.policy.now.duties self.now.plan.now self.now.question states.new) }
+        ensures never { IfOk result (λ look. IsOpen look → IsNeverSo (schema_of self.now.workflow.now) self.now.staff.policy.now.duties self.now.plan.now self.now.question) }
+        ensures told { IfOk result (IsToldOn (schema_of self.now.workflow.now) self.now.staff.policy.now.duties self.now.plan.now self.now.question states.new) }
         ensures fewer { states.new ≤ states.old }
     {
         let node = self.first(alloc)?;
         match self.look(alloc, &node, states)? {
             Look::Open => self.go_on(alloc, node, states),
+            Look::Hopeless => Ok(Look::Open),
             look => Ok(look),
         }
     }

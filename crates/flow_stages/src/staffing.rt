@@ -279,10 +279,8 @@ impl Staff<'_> {
         ensures fewer { states.new ≤ states.old }
     {
         let mut from = 0;
-        for round in 0..u64::MAX {
-            if *states == 0 {
-                return Ok(Filled::Spent);
-            }
+        let most = *states;
+        for round in 0..most {
             *states -= 1;
             match self.step(wanted, events, near, taken, from)? {
                 Step::On(next) => from = next,

@@ -1,4 +1,4 @@
-use Rattle.std.proofs.Common.{◌≡◌, ◌++◌, ◌∷◌, [], ℕ, List, IsTrue, Some, slice_get, refl, sym, ap, subst, ◌∙◌}
+use Rattle.std.proofs.Common.{◌≡◌, ◌<◌, length, ◌++◌, ◌∷◌, [], ℕ, List, IsTrue, Some, slice_get, refl, sym, ap, subst, ◌∙◌}
 use Rattle.std.proofs.lemmas.Option.{slice_get_read}
 use Rattle.leaf_rows.specs.Leaves.{has_leaf}
 use Rattle.flow_model.specs.Facts.{HoldsAt, replay}
@@ -42,5 +42,10 @@ follow_all-requires c =
     let reached = reached_at w p c.args.nodes.now.items c.args.place c.in-Some.node.now c.requires.reached here in
     let next = λ (node : Node) (n : ℕ) (at : slice_get c.args.nodes.now.items c.args.place ≡ Some node) (there : IsTrue (has_leaf c.next_row-row.result n)).
     let is : c.in-Some.node.now ≡ node = some_same c.in-Some.node.now node (sym here ∙ at) in
-    subst (λ (m : Node). MayComeNext p (λ x. x ∈ m.leaves.items) n) is ((c.next_row-row.ensures c.in-Some.node.now.leaves.items n reached.after.done).0 there) in
-    ?
+    subst (λ (m : Node). MayComeNext p (λ x. x ∈ m.leaves.items) n) is ((c.next_row-row.ensures c.in-Some.node.now.leaves.items n reached.after.done).0 there) in record {
+      folds = c.requires.folds;
+      roles = c.requires.roles;
+      reached = c.requires.reached;
+      here = subst (λ (l : List Node). c.args.place < length l) c.deref.ensures.value within;
+      next = next;
+    }

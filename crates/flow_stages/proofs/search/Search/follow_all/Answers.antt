@@ -47,4 +47,4 @@ returns-clause-covered c = λ _ node list n at was m row holds.
 
 pub follow_if_next-requires-clause-next : goal.follow_if_next-requires-clause-next
 follow_if_next-requires-clause-next c = λ node at there.
-    c.requires.next node c.leaf-item.result (same_back c.args.nodes.now.items c.loop-leaf.nodes.items c.args.place node c.loop-leaf.invariant.grows c.requires.here at) there
+    c.requires.next node _ (same_back c.args.nodes.now.items c.loop-leaf.nodes.items c.args.place node c.loop-leaf.invariant.grows c.requires.here at) there

@@ -23,4 +23,4 @@ returns-in-Found-clause-told c = λ looked may.
     let of : event_at w.labels c.args.leaf ≡ Some c.in-Some.event = sym (sym c.in-Some.is ∙ c.event.ensures ∙ ap (λ t. event_at t.labels c.args.leaf) c.tree.ensures.tree) in
     let (fits, none) = c.in_ok-fill_for_nobody.ensures.found c.in-Found.is in
     c.shown.ensures.told w d p question c.fill_for_nobody.new.states
-    (unmanned_shown w d p question c.args.node.now c.args.events.now c.fill_for_nobody.new.takers.items c.in-Some.event c.args.leaf looked may of fits none)
+    (unmanned_shown w d p question c.args.node.now c.args.events.now c.fill_for_nobody.new.taken.items c.in-Some.event c.args.leaf looked may of fits none)

@@ -31,8 +31,8 @@ returns-clause-quiet c =
     let has = ok_at (λ look. IsOpen look → HasSomebody d e (λ f. f ∈ c.deref-in-Found.result.now) to) c.look_at_next.result look is told going in
     somebody_as d e (λ f. f ∈ events) (IsEventOf w list) to (λ f of. (are f).1 (inr of)) (subst (λ l. HasSomebody d e (λ f. f ∈ l) to) c.deref-in-Found.ensures.value has)))
 
-pub returns-in-Found-clause-told : goal.returns-in-Found-clause-told
-returns-in-Found-clause-told c = λ reached.
+pub returns-clause-told : goal.returns-clause-told
+returns-clause-told c = λ reached.
     let list = c.args.node.now.leaves.items in
     let w = schema_of c.args.self.now.workflow.now in
     let are = subst (λ (l : List ℕ). (e : ℕ) → (e ∈ l) ↔ IsToHave w c.args.self.now.question list e) (sym c.deref-in-Found.ensures.value) (c.in_ok-events.ensures list reached.after) in

@@ -19,7 +19,7 @@ pub loop-round-preserved : goal.loop-round-preserved
 loop-round-preserved c = record {
   first = c.step.ensures.first;
   together = c.step.ensures.together c.loop-round.invariant.together;
-  fewer = omega (arith, c.loop-round.invariant.fewer, c.if-states-eq0.false);
+  fewer = omega (arith, c.loop-round.invariant.fewer, c.loop-round-test.true);
   remains = λ to fits.
       let d = c.args.self.now.policy.now.duties in
       let events = c.args.events.now in

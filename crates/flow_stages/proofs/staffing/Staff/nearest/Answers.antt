@@ -1,4 +1,4 @@
-use Rattle.std.proofs.Common.{◌≡◌, ◌++◌, ◌⊎◌, ℕ, List, length, take, inl, inr, ap, sym, subst, ◌∙◌, ⊎_elim}
+use Rattle.std.proofs.Common.{◌≡◌, ◌++◌, ◌⊎◌, ℕ, List, length, take, inl, inr, ap, sym, subst, ◌∙◌, ⊎_elim, arith}
 use Rattle.flow_model.specs.Lists.{◌∈◌}
 use Rattle.flow_model.proofs.Lists.{mem-append, mem_append_left, mem_append_right}
 use Rattle.flow_stages.specs.Fitting.{AreUntied}
@@ -19,7 +19,7 @@ returns-clause-far c = λ f m.
     let near = c.sort_out.new.near.items in
     let far = c.sort_out.new.far.items in
     let items : c.extend_from_slice.new.self.items ≡ near ++ far = c.in_ok-extend_from_slice.ensures.items ∙ ap (λ (l : List ℕ). near ++ l) c.deref.ensures.value in
-    let count : length near ≡ c.len-count.result = sym c.len-count.ensures in
+    let count : length near ≡ c.len-count.result = omega (arith, c.len-count.ensures, c.sort_out.new.near.ok) in
     let front : take c.len-count.result c.extend_from_slice.new.self.items ≡ near =
     ap (λ (l : List ℕ). take c.len-count.result l) items ∙ ap (λ n. take n (near ++ far)) (sym count) ∙ take_front near far in
     ⊎_elim (λ n. inl (subst (λ (l : List ℕ). f ∈ l) (sym front) n)) (λ g. inr (c.in_ok-sort_out.ensures.far f g))

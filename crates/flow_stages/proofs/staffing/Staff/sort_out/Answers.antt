@@ -32,7 +32,7 @@ loop-other-preserved c =
 pub returns-clause-all : goal.returns-clause-all
 returns-clause-all c = λ f.
     let events = c.args.events.now in
-    let same = take_all events c.loop-other.other-index c.loop-other-test.false in (
+    let same = take_all c.loop-other.other-index events c.loop-other-test.false in (
       λ m. (c.loop-other.invariant.all f).0 (subst (λ (l : List ℕ). f ∈ l) (sym same) m),
       λ h. subst (λ (l : List ℕ). f ∈ l) same ((c.loop-other.invariant.all f).1 h),
     )
