@@ -11,7 +11,7 @@ use Rattle.flow_stages.specs.declared.question.Question.{Question}
 use Rattle.flow_stages.specs.declared.wanted.Wanted.{Wanted}
 use Rattle.flow_stages.specs.declared.wanted.Wanted.TheVariants.{Anybody, NobodyFor}
 use Rattle.flow_stages.specs.declared.nodes.Node.{Node}
-use Rattle.flow_stages.specs.declared.question.Question.TheVariants.{Both, Unmanned}
+use Rattle.flow_stages.specs.declared.question.Question.TheVariants.{Both}
 use Rattle.flow_plan.specs.Orders.{MayComeNext}
 use Rattle.flow_plan.specs.Planned.{Planned}
 use Rattle.flow_stages.specs.Asked.{wanted_by, IsEventOf, IsToHave, FitsAfter, IsSo, IsShown}

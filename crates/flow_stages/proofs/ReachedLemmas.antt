@@ -1,8 +1,7 @@
 -- Stages that were reached: the leaves with which a stage came to be are a run of the plan.
-use Rattle.std.proofs.Common.{◌≡◌, ◌<◌, ℕ, List, [], ◌∷◌, ◌++◌, length, slice_get, Some, inl, inr, ⊎_elim, sym, subst}
+use Rattle.std.proofs.Common.{◌≡◌, ℕ, List, [], ◌∷◌, ◌++◌, slice_get, Some, inr, ⊎_elim, sym, subst}
 use Rattle.flow_model.specs.Facts.{HoldsAt, replay}
-use Rattle.flow_model.specs.Lists.{◌∈◌, Begins}
-use Rattle.flow_model.specs.FoldedReady.{IsFoldedRun}
+use Rattle.flow_model.specs.Lists.{◌∈◌}
 use Rattle.flow_model.specs.Ready.{DoneOr}
 use Rattle.flow_model.specs.Schema.{Schema, start_of}
 use Rattle.flow_model.proofs.Lists.{each_member, mem-slice_get}
@@ -12,11 +11,9 @@ use Rattle.flow_fold_laws.proofs.FoldedOrdersByTwo.{folded_by_step}
 use Rattle.flow_plan.specs.Orders.{MayComeNext}
 use Rattle.flow_plan.specs.Planned.{Planned, pairs_of}
 use Rattle.flow_stages.specs.declared.nodes.Node.{Node}
-use Rattle.flow_stages.specs.declared.stage.Stage.{Stage}
 use Rattle.flow_stages.specs.Asked.{IsRunOf}
 use Rattle.flow_stages.specs.Listed.{IsReached, AreReached}
 use Rattle.flow_stages.specs.Stages.{IsAfter}
-use Rattle.flow_stages.proofs.Closure.{same_back}
 use Rattle.flow_stages.proofs.StageLemmas.{next_as}
 
 -- one leaf more

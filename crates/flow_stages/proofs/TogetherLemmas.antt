@@ -1,12 +1,12 @@
 -- Takers who may have their events, each beside each.
-use Rattle.std.proofs.Common.{◌≡◌, ◌≢◌, ◌==◌, ◌≤◌, ◌⊎◌, ℕ, Bool, true, false, List, [], ◌∷◌, ◌++◌, length, inl, inr, ⊎_elim, refl, sym, ap, subst, ◌∙◌, true≢false}
+use Rattle.std.proofs.Common.{◌≡◌, ◌==◌, ◌≤◌, ℕ, true, false, List, [], ◌∷◌, ◌++◌, length, inl, inr, ⊎_elim, refl, sym, ap, subst, ◌∙◌, true≢false}
 use Rattle.std.proofs.lemmas.Bool.{cases_Bool, eqb-true, eq-eqb}
 use Rattle.flow_model.specs.Duties.{Duties, HasRole, IsConstraintOf}
-use Rattle.flow_model.specs.Lists.{◌∈◌, Each}
+use Rattle.flow_model.specs.Lists.{◌∈◌}
 use Rattle.flow_model.proofs.Lists.{mem-append, mem_append_left, only_one, each_member, each_from_members}
 use Rattle.flow_stages.specs.declared.wanted.Wanted.{Wanted}
 use Rattle.flow_stages.specs.declared.wanted.Wanted.TheVariants.{Anybody, OneFor, NobodyFor}
-use Rattle.flow_stages.specs.Fitting.{GoesWith, AreForOne, MayHave, Fits, HasSomebody, Misses, MissesBy, taker_by}
+use Rattle.flow_stages.specs.Fitting.{GoesWith, AreForOne, MayHave, Fits, Misses, MissesBy, taker_by}
 use Rattle.flow_stages.specs.Trying.{AreOfFirst, AreTogether}
 use Rattle.flow_stages.proofs.TryingLemmas.{event_of, taker_of}
 

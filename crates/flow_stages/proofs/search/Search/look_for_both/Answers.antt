@@ -1,4 +1,4 @@
-use Rattle.std.proofs.Common.{ap, refl, sym, subst}
+use Rattle.std.proofs.Common.{ap, sym, subst}
 use Rattle.flow_model.specs.Lists.{◌∈◌}
 use Rattle.flow_workflow.specs.Definition.{schema_of}
 use Rattle.flow_stages.specs.declared.wanted.Wanted.TheVariants.{OneFor}

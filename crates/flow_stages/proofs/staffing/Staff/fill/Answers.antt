@@ -1,4 +1,4 @@
-use Rattle.std.proofs.Common.{◌⊎◌, inl, ⊎_elim, refl, subst, arith}
+use Rattle.std.proofs.Common.{◌⊎◌, inl, ⊎_elim, subst, arith}
 use Rattle.flow_model.specs.Lists.{◌∈◌}
 use Rattle.flow_stages.specs.declared.staffing.Step.{Step}
 use Rattle.flow_stages.specs.Fitting.{Misses}

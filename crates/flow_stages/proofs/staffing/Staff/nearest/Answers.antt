@@ -1,7 +1,6 @@
-use Rattle.std.proofs.Common.{◌≡◌, ◌++◌, ◌⊎◌, ℕ, List, length, take, inl, inr, ap, sym, subst, ◌∙◌, ⊎_elim, arith}
+use Rattle.std.proofs.Common.{◌≡◌, ◌++◌, ℕ, List, length, take, inl, inr, ap, sym, subst, ◌∙◌, ⊎_elim, arith}
 use Rattle.flow_model.specs.Lists.{◌∈◌}
 use Rattle.flow_model.proofs.Lists.{mem-append, mem_append_left, mem_append_right}
-use Rattle.flow_stages.specs.Fitting.{AreUntied}
 use Rattle.flow_stages.proofs.NearLemmas.{take_front}
 use Rattle.flow_stages.proofs.staffing.Staff.nearest.Goals as goal
 

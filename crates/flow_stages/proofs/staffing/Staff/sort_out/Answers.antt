@@ -1,4 +1,4 @@
-use Rattle.std.proofs.Common.{◌<◌, ◌++◌, ◌∷◌, [], ℕ, List, get_or, length, ap, sym, subst, ◌∙◌, ⊎_elim}
+use Rattle.std.proofs.Common.{◌∷◌, [], ℕ, List, get_or, ap, sym, subst, ◌∙◌, ⊎_elim}
 use Rattle.std.proofs.lemmas.List.{take_all}
 use Rattle.flow_model.specs.Lists.{◌∈◌}
 use Rattle.flow_model.proofs.Lists.{mem-append, only_one}

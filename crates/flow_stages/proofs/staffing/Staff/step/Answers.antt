@@ -10,7 +10,7 @@ returns-else-is_end-clause-remains c = λ to fits comes.
     let taken = c.args.taken.now.items in
     let all : length events ≤ length taken = (let (_, _, _, past, _) = c.in-None.ensures.lookup in omega (arith, past, c.len.ensures)) in
     let misses = subst (λ (t : List (ℕ × ℕ)). MissesBy d c.args.wanted t) c.deref-in-None.ensures.value (c.if-is_end.ensures.missed refl) in
-    ⊎_elim inl (λ strict. inr (c.back.ensures.remains events to c.requires.first strict))
+    ⊎_elim inl (λ strict. inr (c.back-else-is_end.ensures.remains events to c.requires.first strict))
     (missed d c.args.wanted events to taken c.requires.first c.args.from (all_taken d c.args.wanted events to taken c.requires.first all) misses comes)
 
 pub returns-then-is_missed-clause-remains : goal.returns-then-is_missed-clause-remains
