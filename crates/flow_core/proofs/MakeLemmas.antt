@@ -17,11 +17,6 @@ last_allowed w limit s made (e ∷ history) entry (going, room, allowed, rest) =
     let last = last_allowed w limit (next_state w s e.step) (made + 1) history entry rest in
     (last.0, (let within = last.1 in let r : made + length (e ∷ history) < limit = omega arith in r), last.2)
 
--- where a claim is out, there are current claims
-pub claim_out : (s : RunState) (least : Option ℕ) → MatchOption least (current_claims s ≡ []) (IsLeast (IsCurrent s)) → true ≡ is_some least → ¬ (current_claims s ≡ [])
-claim_out s None told some none = true≢false some
-claim_out s (Some claim) told some none = none_out s claim none told
-
 -- of a run whose history is legal
 module _ (r : Run) (legal : IsLegal (schema r) r.limit r.history) (entry : Entry) where
   pub legal_made : CanMake r entry.step → IsLegal (schema r) r.limit (r.history ++ entry ∷ [])
