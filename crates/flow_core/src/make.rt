@@ -26,6 +26,7 @@ impl Core {
     }
 
     /// Makes an entry of that step, where it may be made next: where the run is asked for it, and answers with it.
+    #[tactic(auto, using(crate::proofs::MakeByAsks::taken, crate::proofs::MakeByAsks::performed, crate::proofs::MakeByAsks::posted_done, crate::proofs::MakeByAsks::posted_failed))]
     fn make_step(&mut self, step: Step, by: u32) -> bool
         ensures { Makes self.old by step result self.new }
     {
