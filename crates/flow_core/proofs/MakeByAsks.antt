@@ -1,11 +1,13 @@
 -- An entry is made where it may be, and by an ask: what the run answers tells which.
-use Rattle.std.proofs.Common.{◌≡◌, ◌∙◌, ℕ, Bool, true, false, Result, Ok, Err, Option, None, Some, MatchOption, not, IsTrue, ◌↔◌, le_antisymm, refl, sym, ap, subst, arith, true≢false}
+use Rattle.std.proofs.Common.{◌≡◌, ◌∙◌, ℕ, Bool, true, false, Result, Ok, Err, Option, None, Some, MatchOption, not, nat_eq, IsTrue, ◌↔◌, le_antisymm, refl, sym, ap, subst, true≢false}
+use Rattle.std.specs.Option.{option_eq}
 use Rattle.std.specs.Result.{is_ok}
+use Rattle.std.proofs.lemmas.Bool.{eqb-true, eq-eqb}
 use Rattle.flow_model.specs.declared.history.Call.{Call}
 use Rattle.flow_model.specs.declared.history.FailEffect.{FailEffect}
 use Rattle.flow_model.specs.declared.history.FailEffect.TheVariants.{Switched, Kept}
-use Rattle.flow_model.specs.declared.history.Step.TheVariants.{Took, Done, Failed, Late, Did, Rewound, Committed}
-use Rattle.flow_model.specs.Run.{IsAllowed, IsCurrent, IsLapsed, IsOpen, IsOpenIndex}
+use Rattle.flow_model.specs.declared.history.Step.TheVariants.{Took, Done, Failed, Did, Rewound, Committed}
+use Rattle.flow_model.specs.Run.{IsAllowed, IsCurrent, IsOpen, IsOpenIndex}
 use Rattle.flow_model.specs.Lists.{◌∈◌}
 use Rattle.flow_model.specs.Verdict.{call_of}
 use Rattle.flow_laws.proofs.ClaimLemmas.{leaf_of_claim_is}
@@ -23,7 +25,7 @@ use Rattle.flow_core.specs.declared.refusal.CommitRefusal.TheVariants as commit
 use Rattle.flow_core.specs.Run.{Run, schema, now, with_entry}
 use Rattle.flow_core.specs.Answers.{next_claim, Takes, Performs, PostIsRefused, HasEffect, PostsDone, PostsFailed, Rewinds, Commits}
 use Rattle.flow_core.specs.Claim.{IsGiven}
-use Rattle.flow_core.specs.Make.{CanMake, Makes}
+use Rattle.flow_core.specs.Make.{Makes}
 use Rattle.flow_core.proofs.GivenClaims.{claim_needed}
 use Rattle.flow_core.proofs.SingleLemmas.{late_current, takes_once, performs_once, posts_done_once, posts_failed_once, rewinds_once, commits_once}
 
@@ -110,11 +112,14 @@ module _ (r after : Run) (by : ℕ) where
     commits_stay why refused,
   )
 
--- another place is not the last open one
-pub not_last : (r : Run) (index : ℕ) (last : Option ℕ) → MatchOption last ((i : ℕ) → ¬ (IsOpen (schema r) (now r) i)) (IsOpenIndex (schema r) (now r)) → ¬ (last ≡ Some index) →
-    ¬ (IsOpenIndex (schema r) (now r) index)
-not_last r index None none other is = none index is.0
-not_last r index (Some last) is other here = other (ap Some (le_antisymm (here.1 last is.0) (is.1 index here.0)))
+-- whether a place is the last open one, as a comparison tells it
+pub is_last : (r : Run) (index : ℕ) (last : Option ℕ) (same : Bool) → MatchOption last ((i : ℕ) → ¬ (IsOpen (schema r) (now r) i)) (IsOpenIndex (schema r) (now r)) →
+    same ≡ option_eq nat_eq last (Some index) → IsTrue same ↔ IsOpenIndex (schema r) (now r) index
+is_last r index None same none told = (λ yes. absurd (true≢false (sym yes ∙ told)), λ here. absurd (none index here.0))
+is_last r index (Some last) same is told = (
+  (λ yes. subst (IsOpenIndex (schema r) (now r)) (eqb-true last index (sym told ∙ yes)) is),
+  (λ here. told ∙ eq-eqb last index (le_antisymm (here.1 last is.0) (is.1 index here.0))),
+)
 
 -- a current claim's failure is kept exactly where no execution avoids its leaf
 pub kept_where : (r : Run) (claim : ℕ) (given : Given) (avoids : Bool) → IsCurrent (now r) claim × IsGiven r claim given →

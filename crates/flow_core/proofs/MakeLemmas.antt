@@ -1,13 +1,11 @@
 -- An entry may be made exactly where the history with it is legal.
-use Rattle.std.proofs.Common.{◌≡◌, ◌<◌, ◌+◌, ◌↔◌, ℕ, Bool, true, false, List, [], ◌∷◌, ◌++◌, length, Option, None, Some, MatchOption, is_some, IsTrue, refl, sym, arith, true≢false}
+use Rattle.std.proofs.Common.{◌≡◌, ◌<◌, ◌+◌, ◌↔◌, ℕ, Bool, true, false, List, [], ◌∷◌, ◌++◌, length, IsTrue, refl, sym, arith, true≢false}
 use Rattle.flow_model.specs.declared.history.Entry.{Entry}
 use Rattle.flow_model.specs.Schema.{Schema}
-use Rattle.flow_model.specs.Run.{RunState, first_state, next_state, state_after, current_claims, IsCurrent, IsAllowed, IsLegal, IsLegalFrom}
+use Rattle.flow_model.specs.Run.{RunState, first_state, next_state, state_after, IsAllowed, IsLegal, IsLegalFrom}
 use Rattle.flow_core.specs.Run.{Run, schema}
 use Rattle.flow_core.specs.Make.{CanMake, Makes}
-use Rattle.flow_core.specs.Answers.{IsLeast}
 use Rattle.flow_core.proofs.Steps.{legal-append}
-use Rattle.flow_core.proofs.SingleLemmas.{none_out}
 
 -- what the last entry of a legal history was allowed by
 last_allowed : (w : Schema) (limit : ℕ) (s : RunState) (made : ℕ) (history : List Entry) (entry : Entry) → IsLegalFrom w limit s made (history ++ entry ∷ []) →

@@ -1,10 +1,9 @@
-use Rattle.std.proofs.Common.{◌≡◌, ◌∙◌, ℕ, Bool, MatchOption, refl, sym, subst, true≢false}
+use Rattle.std.proofs.Common.{◌≡◌, ◌∙◌, ℕ, Bool, refl, sym, subst, true≢false}
 use Rattle.flow_model.specs.declared.history.Step.{Step}
 use Rattle.flow_model.specs.declared.history.Step.TheVariants.{Rewound, Committed}
-use Rattle.flow_model.specs.Run.{IsOpen, IsOpenIndex}
-use Rattle.flow_core.specs.Run.{Run, schema, now}
+use Rattle.flow_core.specs.Run.{Run}
 use Rattle.flow_core.specs.Make.{Makes}
-use Rattle.flow_core.proofs.MakeByAsks.{rewound, ended, not_last}
+use Rattle.flow_core.proofs.MakeByAsks.{rewound, ended, is_last}
 use Rattle.flow_core.proofs.run.Core.make_step.Goals as goal
 
 -- the step and the answer are those that were looked at
@@ -15,15 +14,17 @@ made_as r after by step is told made same answer makes =
 pub returns-then-eq : goal.returns-then-eq
 returns-then-eq c =
     let r = c.args.self.now in
-    let last = subst (λ o. MatchOption o ((i : ℕ) → ¬ (IsOpen (schema r) (now r) i)) (IsOpenIndex (schema r) (now r))) (c.eq.ensures.0 c.if-eq.true) c.open_index.ensures in
-    made_as r c.rewind.new.self c.args.by c.args.step (Rewound c.in-Rewound.index) _ _ c.in-Rewound.is c.is_ok-then-eq.ensures.value
-    (rewound r c.rewind.new.self c.args.by c.in-Rewound.index c.rewind.result last c.rewind.ensures)
+    let index = c.in-Rewound.index in
+    let last = (is_last r index c.open_index.result c.eq.result c.open_index.ensures c.eq.ensures).0 c.if-eq.true in
+    made_as r c.rewind.new.self c.args.by c.args.step (Rewound index) _ _ c.in-Rewound.is c.is_ok-then-eq.ensures.value
+    (rewound r c.rewind.new.self c.args.by index c.rewind.result last c.rewind.ensures)
 
 pub returns-else-eq : goal.returns-else-eq
 returns-else-eq c =
     let r = c.args.self.now in
-    made_as r r c.args.by c.args.step (Rewound c.in-Rewound.index) _ _ c.in-Rewound.is c.if-eq.false
-    ((λ can. not_last r c.in-Rewound.index c.open_index.result c.open_index.ensures (λ is. true≢false (sym (c.eq.ensures.1 is) ∙ c.if-eq.false)) can.allowed), refl)
+    let index = c.in-Rewound.index in
+    let last = is_last r index c.open_index.result c.eq.result c.open_index.ensures c.eq.ensures in
+    made_as r r c.args.by c.args.step (Rewound index) _ _ c.in-Rewound.is c.if-eq.false ((λ can. true≢false (sym (last.1 can.allowed) ∙ c.if-eq.false)), refl)
 
 pub returns-in-Committed : goal.returns-in-Committed
 returns-in-Committed c =
