@@ -22,7 +22,7 @@ use Rattle.flow_findings.specs.declared.refused.Refused.{Refused}
 use Rattle.flow_findings.specs.declared.refused.Refused.TheVariants as refused
 use Rattle.flow_findings.specs.Refusing as refusing
 use Rattle.flow_words.specs.declared.request.Mode.{Mode}
-use Rattle.flow_words.specs.declared.request.Mode.TheVariants.{Gen, Large}
+use Rattle.flow_words.specs.declared.request.Mode.TheVariants.{Drive, Run, Check, Verify, Trace, Gen, Large, Duty, Audit}
 use Rattle.flow_words.specs.declared.request.Request.{Request}
 use Rattle.flow_front.specs.declared.output.Output.{Output}
 use Rattle.flow_front.specs.declared.status.Status.{Status}
@@ -36,7 +36,7 @@ use Rattle.flow_front.specs.Input.{IsInputOf, IsReadWhole, LeavesSource}
 use Rattle.flow_reply.specs.Verdict.{ended}
 use Rattle.flow_cli.specs.Finding.{Finding, driven, ran, traced, audited, verified, tried, summarized, status_of_checked, status_of_found, finding_status, came_status, IsFound, Answers}
 use Rattle.flow_cli.specs.Large.{RunsGenerated}
-use Rattle.flow_cli.specs.Output.{Reads, Finds, IsTold, WritesOf, WritesAs, IsWhole, IsOfInput, IsOver, IsTakenFrom, IsOutcome, IsText, IsSummarized}
+use Rattle.flow_cli.specs.Output.{Reads, StartsNoThreads, Finds, IsTold, WritesOf, WritesAs, IsWhole, IsOfInput, IsOver, IsTakenFrom, IsOutcome, IsText, IsSummarized}
 use Rattle.flow_cli.proofs.Refusals.{finds_later}
 
 -- ---- statuses of what is found
@@ -214,14 +214,58 @@ module _ (mode : Mode) (gives : Call → Outcome → Bool) (request : Request) (
   stopped_read T stop.NoMemory s output cause fault leaves told = absurd told
 
 -- a run of a generated workflow
-pub summarized_outputs : (gives : Call → Outcome → Bool) (request : Request) (steps workers : ℕ) (left : Option (List ℕ)) (faults : ℕ) (result : Result Output AllocError) →
-    steps ≡ request.steps → workers ≡ request.workers → IfOk result (IsFound (RunsGenerated gives request.seed request.size steps workers)) →
+pub summarized_outputs : (gives : Call → Outcome → Bool) (request : Request) (left : Option (List ℕ)) (faults : ℕ) (result : Result Output AllocError) →
+    IfOk result (IsFound (RunsGenerated gives request.seed request.size request.steps request.workers)) →
     IfOk result (λ output. IsOutcome (IsSummarized gives request) ⊥ left left faults faults output.status output.text.items)
-summarized_outputs gives request steps workers left faults (Err e) same_steps same_workers found = tt
-summarized_outputs gives request steps workers left faults (Ok output) same_steps same_workers (found, runs, is) =
-    unread_outcome (IsSummarized gives request) left faults output.status output.text.items (subst IsOfInput (sym is.status_is) (of_finding found)) (
-      Ok found,
-      subst (λ (n : ℕ). RunsGenerated gives request.seed request.size request.steps n (Ok found)) same_workers
-          (subst (λ (n : ℕ). RunsGenerated gives request.seed request.size n workers (Ok found)) same_steps runs),
-      record { status_is = is.status_is; output_is = is.output_is },
-    )
+summarized_outputs gives request left faults (Err e) found = tt
+summarized_outputs gives request left faults (Ok output) (found, runs, is) =
+    unread_outcome (IsSummarized gives request) left faults output.status output.text.items (subst IsOfInput (sym is.status_is) (of_finding found))
+    (Ok found, runs, record { status_is = is.status_is; output_is = is.output_is })
+
+-- ---- modes
+
+-- the one mode beside `run` that reads and starts threads
+pub audit_left : (mode : Mode) → ¬ (StartsNoThreads mode) → Reads mode → mode ≢ Run → mode ≡ Audit
+audit_left Run threads reads other = absurd (other refl)
+audit_left Audit threads reads other = refl
+audit_left Large threads reads other = absurd reads
+audit_left mode threads reads other = absurd (threads tt)
+
+-- the modes that start no threads
+pub alone_left : (mode : Mode) → mode ≢ Run → mode ≢ Audit → mode ≢ Large → StartsNoThreads mode
+alone_left Run run audit large = absurd (run refl)
+alone_left Audit run audit large = absurd (audit refl)
+alone_left Large run audit large = absurd (large refl)
+alone_left mode run audit large = tt
+
+-- all of them read but `gen`
+pub read_alone : (mode : Mode) → StartsNoThreads mode → mode ≢ Gen → Reads mode
+read_alone Gen alone other = absurd (other refl)
+read_alone Large alone other = absurd alone
+read_alone mode alone other = tt
+
+-- what is written in such a mode is the same whatever the gate
+module _ (request : Request) (source : Option (List ℕ)) (one other : Call → Outcome → Bool) where
+  write_same : (mode : Mode) → StartsNoThreads mode → (status : Status) (output : List ℕ) → WritesAs mode one request source status output →
+      WritesAs mode other request source status output
+  write_same Run alone status output written = absurd alone
+  write_same Large alone status output written = absurd alone
+  write_same Audit alone status output written = absurd alone
+  write_same Drive alone status output written = written
+  write_same Check alone status output written = written
+  write_same Verify alone status output written = written
+  write_same Trace alone status output written = written
+  write_same Duty alone status output written = written
+  write_same Gen alone status output written = written
+
+  pub any_gate : StartsNoThreads request.mode → (source' : Option (List ℕ)) (faults faults' : ℕ) (status : Status) (output : List ℕ) →
+      IsOutcome (WritesAs request.mode one request source) (Reads request.mode) source source' faults faults' status output →
+      IsOutcome (WritesAs request.mode other request source) (Reads request.mode) source source' faults faults' status output
+  any_gate alone source' faults faults' status output is = record {
+    writes = write_same request.mode alone status output is.writes;
+    whole = is.whole;
+    words = is.words;
+    fault = is.fault;
+    end = is.end;
+    refused = is.refused;
+  }

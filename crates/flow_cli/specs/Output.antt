@@ -4,6 +4,7 @@ use Rattle.flow_model.specs.declared.limits.TheConstants.{GREATEST_INPUT}
 use Rattle.flow_model.specs.declared.history.Call.{Call}
 use Rattle.flow_model.specs.declared.history.Outcome.{Outcome}
 use Rattle.flow_form.specs.Script.{Said}
+use Rattle.flow_form.specs.Script as script
 use Rattle.flow_form.specs.Names.{event_names}
 use Rattle.flow_findings.specs.declared.refused.Refused.{Refused}
 use Rattle.flow_findings.specs.declared.refused.Refused.TheVariants as refused
@@ -14,6 +15,8 @@ use Rattle.flow_words.specs.declared.purpose.Purpose.{Purpose}
 use Rattle.flow_words.specs.declared.purpose.Purpose.TheVariants.{Answer, Help, Version}
 use Rattle.flow_words.specs.declared.help.TheConstants.{HELP, VERSION}
 use Rattle.flow_words.specs.Words.{IsFor, IsNoCall}
+use Rattle.flow_front.specs.declared.input.Input.{Input}
+use Rattle.flow_front.specs.declared.output.Output.{Output}
 use Rattle.flow_front.specs.declared.status.Status.{Status}
 use Rattle.flow_front.specs.declared.status.Status.TheVariants as status
 use Rattle.flow_front.specs.Status.{Tells}
@@ -59,6 +62,9 @@ StartsNoThreads Large = ⊥
 StartsNoThreads Audit = ⊥
 StartsNoThreads other = Unit {0}
 
+abbrev pub StartsThreads : Mode → Type 0
+StartsThreads mode = ¬ (StartsNoThreads mode)
+
 -- What a mode that reads finds in what is said and in the text that follows: `check` and `run` do not look at that. Only what workers run
 -- asks the gate.
 abbrev pub Finds : Mode → (Call → Outcome → Bool) → Request → Said → List ℕ → Result Finding Refused → Type 0
@@ -71,6 +77,10 @@ Finds Duty gives request s text came = DutyText s request.steps text came
 Finds Audit gives request s text came = AuditsText s text came
 Finds Gen gives request s text came = ⊥
 Finds Large gives request s text came = ⊥
+
+-- what a request finds in an input
+abbrev pub FindsIn : (Call → Outcome → Bool) → Request → Input → Result Finding Refused → Type 0
+FindsIn gives request input came = Finds request.mode gives request (script.said input.script) input.second.items came
 
 -- something that may come of what is said is written
 abbrev pub IsTold : (Result Finding Refused → Type 0) → Said → Status → List ℕ → Type 0
@@ -161,6 +171,16 @@ pub record IsOutcome (IsWritten : Status → List ℕ → Type 0) (reads : Type 
   pub fault : (ending ≡ status.ReadFault) ↔ (faults < faults')
   pub end : reads → IsOver ending → IfSome left (λ _. left' ≡ Some [])
   pub refused : reads → ending ≡ status.Input → IsTakenFrom left left'
+
+-- what is written of a source, by what it tells of its bytes and its faults, for a request and for a purpose
+module _ {S : Type 0} (left : S → Option (List ℕ)) (faults : S → ℕ) (gives : Call → Outcome → Bool) where
+  abbrev pub IsAnswer : Request → S → S → Output → Type 0
+  IsAnswer request source source' output = IsOutcome (WritesAs request.mode gives request (left source)) (Reads request.mode)
+      (left source) (left source') (faults source) (faults source') output.status output.text.items
+
+  abbrev pub IsServed : Purpose → S → S → Output → Type 0
+  IsServed purpose source source' output = IsOutcome (WritesFor purpose gives (left source)) (ReadsFor purpose)
+      (left source) (left source') (faults source) (faults source') output.status output.text.items
 
 -- A call with these words could have ended so, by what became of the source: a failed read is told, and nothing else as one; an answer stands
 -- on the end of the source where it is to be read; a refusal comes once it is read, or too long; and wrong words leave it the same.

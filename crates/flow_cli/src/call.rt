@@ -1,4 +1,4 @@
-ghost use Rattle.std.specs.Prelude.{◌≡◌, ◌<◌, ◌-◌, ◌≤◌, ◌^◌, ◌↔◌, ◌⊎◌, ℕ, Bool, List, [], length, map, Some, IfOk, IfSome};
+ghost use Rattle.std.specs.Prelude.{◌≡◌, ◌<◌, ◌-◌, ◌≤◌, ◌^◌, ◌↔◌, ◌⊎◌, ℕ, Bool, false, List, [], length, map, Some, IfOk, IfSome};
 ghost use Rattle.std.specs.String.{string_bytes};
 ghost use Rattle.std.specs.Io.KnownBytes.{Appends};
 ghost use Rattle.flow_io.specs.Sink.{AppendsPart};
@@ -12,9 +12,9 @@ ghost use Rattle.flow_words.specs.declared.purpose.Purpose.{Purpose};
 ghost use Rattle.flow_words.specs.Words.{HasWithin, IsFor, IsWithin};
 ghost use Rattle.flow_front.specs.declared.status.Status.{Status};
 ghost use Rattle.flow_cli.specs.Finding.{Answers};
-ghost use Rattle.flow_cli.specs.Output.{Reads, ReadsFor, StartsNoThreads, Finds, IsTold, IsText, IsGenerated, WritesAs, WritesFor, Writes, IsWhole, IsOver, IsTakenFrom, IsOutcome, EndsWith};
+ghost use Rattle.flow_words.specs.declared.request.Request.{Request};
+ghost use Rattle.flow_cli.specs.Output.{Reads, ReadsFor, StartsNoThreads, StartsThreads, FindsIn, IsTold, IsText, IsGenerated, IsAnswer, IsServed, WritesFor, Writes, IsWhole, IsOver, IsTakenFrom, IsOutcome, EndsWith};
 
-use crate::audit::Auditors;
 use crate::check::check;
 use crate::drive::drive_text;
 use crate::duty::duty_text;
@@ -30,90 +30,97 @@ use std::alloc::{AllocError, Global};
 use std::sync::Wait;
 use std::thread::Threads;
 
-/// The workers of a request, and the gate that performs their tasks.
-fn crew_of<'a, R: Threads + Wait + Sync, G: Gate>(
-    rt: &'a R,
+/// Who finds an answer in an input: nobody but the call itself, or workers.
+trait Finder {
+    // Whether a gate may answer a call so.
+    ghost gives: { Call → Outcome → Bool };
+
+    // The request that is answered.
+    ghost asked: { Self → Request };
+
+    // The modes that it can answer.
+    ghost takes: { Mode → Type 0 };
+
+    /// What the mode of the request finds in an input.
+    fn find(&self, alloc: Global, input: &Input) -> Result<Output, Stop>
+        requires mode { takes (asked self.now).mode }
+        requires reads { Reads (asked self.now).mode }
+        requires closed { IsClosed (said input.now.script) }
+        requires short { length input.now.second.items ≤ GREATEST_INPUT }
+        ensures { Answers (FindsIn gives (asked self.now) input.now) result };
+}
+
+/// A request that is answered with no runtime: no thread is started, and nothing is waited for.
+#[derive(Drop)]
+struct Alone {
     request: Request,
-    gate: &'a G,
-) -> Crew<'a, R, G>
-    requires { IsWithin request }
-    ensures steps { result.steps ≡ request.steps }
-    ensures workers { result.workers ≡ request.workers }
-{
-    Crew {
-        rt,
-        gate,
-        steps: request.steps,
-        workers: request.workers,
+    ghost within: { IsWithin request },
+}
+
+impl Finder for Alone {
+    ghost gives = { λ _ _. false };
+
+    ghost asked = { λ alone. alone.request };
+
+    ghost takes = { StartsNoThreads };
+
+    fn find(&self, alloc: Global, input: &Input) -> Result<Output, Stop> {
+        let (script, text) = (&input.script, &input.second);
+        match self.request.mode {
+            Mode::Drive => drive_text(alloc, script, text, self.request.steps),
+            Mode::Check => check(alloc, script),
+            Mode::Verify => verify_text(alloc, script, text),
+            Mode::Trace => trace_text(alloc, script, text),
+            Mode::Duty => duty_text(alloc, script, text, self.request.steps),
+            Mode::Run | Mode::Gen | Mode::Large | Mode::Audit => unreachable!(),
+        }
     }
 }
 
-/// The workers of a request that check journals.
-fn auditors_of<R: Threads>(rt: &R, request: Request) -> Auditors<'_, R>
-    requires { IsWithin request }
-    ensures { result.workers ≡ request.workers }
-{
-    Auditors {
-        rt,
-        workers: request.workers,
+impl<'a, R: Threads + Wait + Sync, G: Gate> Finder for Crew<'a, R, G> {
+    ghost gives = { G.gives };
+
+    ghost asked = { λ crew. crew.request };
+
+    ghost takes = { StartsThreads };
+
+    fn find(&self, alloc: Global, input: &Input) -> Result<Output, Stop> {
+        match self.request.mode {
+            Mode::Run => self.run_script(alloc, &input.script),
+            // the other mode that reads and starts threads
+            _ => self.audit_text(alloc, &input.script, &input.second),
+        }
     }
 }
 
-/// What the mode of a request, which reads and starts no threads, finds in an input.
-fn find(alloc: Global, request: Request, input: &Input) -> Result<Output, Stop>
-    requires within { IsWithin request }
-    requires reads { Reads request.mode }
-    requires alone { StartsNoThreads request.mode }
+/// What is written of an input.
+fn answer_input<F: Finder>(alloc: Global, finder: &F, input: &Input) -> Result<Output, AllocError>
+    requires mode { F.takes (F.asked finder.now).mode }
+    requires reads { Reads (F.asked finder.now).mode }
     requires closed { IsClosed (said input.now.script) }
     requires short { length input.now.second.items ≤ GREATEST_INPUT }
-    ensures { (gives : Call → Outcome → Bool) →
-        Answers (Finds request.mode gives request (said input.now.script) input.now.second.items) result }
+    ensures { IfOk result (λ output. IsTold (FindsIn F.gives (F.asked finder.now) input.now) (said input.now.script) output.status output.text.items) }
 {
-    let script = &input.script;
-    match request.mode {
-        Mode::Drive => drive_text(alloc, script, &input.second, request.steps),
-        Mode::Check => check(alloc, script),
-        Mode::Verify => verify_text(alloc, script, &input.second),
-        Mode::Trace => trace_text(alloc, script, &input.second),
-        Mode::Duty => duty_text(alloc, script, &input.second, request.steps),
-        Mode::Run | Mode::Gen | Mode::Large | Mode::Audit => unreachable!(),
-    }
-}
-
-/// What is written of an input, where no threads are started.
-fn answer_input(alloc: Global, request: Request, input: &Input) -> Result<Output, AllocError>
-    requires within { IsWithin request }
-    requires reads { Reads request.mode }
-    requires alone { StartsNoThreads request.mode }
-    requires closed { IsClosed (said input.now.script) }
-    requires short { length input.now.second.items ≤ GREATEST_INPUT }
-    ensures { (gives : Call → Outcome → Bool) →
-        IfOk result (λ output. IsTold (Finds request.mode gives request (said input.now.script) input.now.second.items)
-        (said input.now.script) output.status output.text.items) }
-{
-    match find(alloc, request, input) {
+    match finder.find(alloc, input) {
         Ok(output) => Ok(output),
         Err(stop) => refuse(alloc, stop, Some(&input.script)),
     }
 }
 
-/// What is written of what the source gives, where no threads are started.
-fn answer_source<S: Source>(
+/// What is written of what the source gives.
+fn answer_source<F: Finder, S: Source>(
     alloc: Global,
-    request: Request,
+    finder: &F,
     source: &mut S,
 ) -> Result<Output, AllocError>
-    requires within { IsWithin request }
-    requires reads { Reads request.mode }
-    requires alone { StartsNoThreads request.mode }
+    requires mode { F.takes (F.asked finder.now).mode }
+    requires reads { Reads (F.asked finder.now).mode }
     requires source_counts { S.faults source.old < 2 ^ 64 - 1 }
-    ensures { (gives : Call → Outcome → Bool) →
-        IfOk result (λ output. IsOutcome (WritesAs request.mode gives request (S.left source.old)) (Reads request.mode)
-        (S.left source.old) (S.left source.new) (S.faults source.old) (S.faults source.new) output.status output.text.items) }
+    ensures { IfOk result (IsAnswer S.left S.faults F.gives (F.asked finder.now) source.old source.new) }
 {
     match read_input(alloc, source) {
         Ok(input) => {
-            let output = answer_input(alloc, request, &input);
+            let output = answer_input(alloc, finder, &input);
             drop(input);
             output
         }
@@ -142,91 +149,12 @@ pub fn answer_alone<S: Source>(
     requires within { IsWithin request }
     requires alone { StartsNoThreads request.mode }
     requires source_counts { S.faults source.old < 2 ^ 64 - 1 }
-    ensures outcome { (gives : Call → Outcome → Bool) →
-        IfOk result (λ output. IsOutcome (WritesAs request.mode gives request (S.left source.old)) (Reads request.mode)
-        (S.left source.old) (S.left source.new) (S.faults source.old) (S.faults source.new) output.status output.text.items) }
+    ensures outcome { (gives : Call → Outcome → Bool) → IfOk result (IsAnswer S.left S.faults gives request source.old source.new) }
     ensures unread { ¬ (Reads request.mode) → source.new ≡ source.old }
 {
     match request.mode {
         Mode::Gen => write_generated(alloc, request),
-        Mode::Drive | Mode::Check | Mode::Verify | Mode::Trace | Mode::Duty => answer_source(
-            alloc, request, source,
-        ),
-        Mode::Run | Mode::Large | Mode::Audit => unreachable!(),
-    }
-}
-
-/// What the mode of a request, which reads and starts threads, finds in an input.
-fn find_by_workers<R: Threads + Wait + Sync, G: Gate>(
-    rt: &R,
-    alloc: Global,
-    request: Request,
-    input: &Input,
-    gate: &G,
-) -> Result<Output, Stop>
-    requires within { IsWithin request }
-    requires reads { Reads request.mode }
-    requires workers { ¬ (StartsNoThreads request.mode) }
-    requires closed { IsClosed (said input.now.script) }
-    ensures { Answers (Finds request.mode G.gives request (said input.now.script) input.now.second.items) result }
-{
-    let script = &input.script;
-    match request.mode {
-        Mode::Run => crew_of(rt, request, gate).run_script(alloc, script),
-        Mode::Audit => auditors_of(rt, request).audit_text(alloc, script, &input.second),
-        Mode::Drive
-        | Mode::Check
-        | Mode::Verify
-        | Mode::Trace
-        | Mode::Gen
-        | Mode::Large
-        | Mode::Duty => unreachable!(),
-    }
-}
-
-/// What is written of an input, where threads are started.
-fn answer_input_by_workers<R: Threads + Wait + Sync, G: Gate>(
-    rt: &R,
-    alloc: Global,
-    request: Request,
-    input: &Input,
-    gate: &G,
-) -> Result<Output, AllocError>
-    requires within { IsWithin request }
-    requires reads { Reads request.mode }
-    requires workers { ¬ (StartsNoThreads request.mode) }
-    requires closed { IsClosed (said input.now.script) }
-    ensures { IfOk result (λ output. IsTold (Finds request.mode G.gives request (said input.now.script) input.now.second.items)
-        (said input.now.script) output.status output.text.items) }
-{
-    match find_by_workers(rt, alloc, request, input, gate) {
-        Ok(report) => Ok(report),
-        Err(stop) => refuse(alloc, stop, Some(&input.script)),
-    }
-}
-
-/// What is written of what the source gives, where threads are started.
-fn answer_source_by_workers<R: Threads + Wait + Sync, S: Source, G: Gate>(
-    rt: &R,
-    alloc: Global,
-    request: Request,
-    source: &mut S,
-    gate: &G,
-) -> Result<Output, AllocError>
-    requires within { IsWithin request }
-    requires reads { Reads request.mode }
-    requires workers { ¬ (StartsNoThreads request.mode) }
-    requires source_counts { S.faults source.old < 2 ^ 64 - 1 }
-    ensures { IfOk result (λ output. IsOutcome (WritesAs request.mode G.gives request (S.left source.old)) (Reads request.mode)
-        (S.left source.old) (S.left source.new) (S.faults source.old) (S.faults source.new) output.status output.text.items) }
-{
-    match read_input(alloc, source) {
-        Ok(input) => {
-            let output = answer_input_by_workers(rt, alloc, request, &input, gate);
-            drop(input);
-            output
-        }
-        Err(stop) => refuse(alloc, stop, None),
+        _ => answer_source(alloc, &Alone { request }, source),
     }
 }
 
@@ -240,16 +168,13 @@ fn answer<R: Threads + Wait + Sync, S: Source, G: Gate>(
 ) -> Result<Output, AllocError>
     requires within { IsWithin request }
     requires source_counts { S.faults source.old < 2 ^ 64 - 1 }
-    ensures outcome { IfOk result (λ output. IsOutcome (WritesAs request.mode G.gives request (S.left source.old)) (Reads request.mode)
-        (S.left source.old) (S.left source.new) (S.faults source.old) (S.faults source.new) output.status output.text.items) }
+    ensures outcome { IfOk result (IsAnswer S.left S.faults G.gives request source.old source.new) }
     ensures unread { ¬ (Reads request.mode) → source.new ≡ source.old }
 {
     match request.mode {
-        Mode::Drive | Mode::Check | Mode::Verify | Mode::Trace | Mode::Gen | Mode::Duty => {
-            answer_alone(alloc, request, source)
-        }
-        Mode::Run | Mode::Audit => answer_source_by_workers(rt, alloc, request, source, gate),
-        Mode::Large => crew_of(rt, request, gate).run_generated(alloc, request.seed, request.size),
+        Mode::Run | Mode::Audit => answer_source(alloc, &Crew { rt, gate, request }, source),
+        Mode::Large => Crew { rt, gate, request }.run_generated(alloc),
+        _ => answer_alone(alloc, request, source),
     }
 }
 
@@ -273,8 +198,7 @@ fn serve<R: Threads + Wait + Sync, S: Source, G: Gate>(
 ) -> Result<Output, AllocError>
     requires within { HasWithin purpose }
     requires source_counts { S.faults source.old < 2 ^ 64 - 1 }
-    ensures outcome { IfOk result (λ output. IsOutcome (WritesFor purpose G.gives (S.left source.old)) (ReadsFor purpose)
-        (S.left source.old) (S.left source.new) (S.faults source.old) (S.faults source.new) output.status output.text.items) }
+    ensures outcome { IfOk result (IsServed S.left S.faults G.gives purpose source.old source.new) }
     ensures unread { ¬ (ReadsFor purpose) → source.new ≡ source.old }
 {
     match purpose {
@@ -294,13 +218,8 @@ fn respond<R: Threads + Wait + Sync, S: Source, G: Gate>(
 ) -> Result<Output, AllocError>
     requires { S.faults source.old < 2 ^ 64 - 1 }
     ensures writes { IfOk result (λ output. Writes G.gives (map (λ word. string_bytes word) words.now) (S.left source.old) output.status output.text.items) }
-    ensures whole { IfOk result (λ output. IsWhole output.status) }
-    ensures words { IfOk result (λ output. output.status ≡ Status.Words → source.new ≡ source.old) }
-    ensures fault { IfOk result (λ output. (output.status ≡ Status.ReadFault) ↔ (S.faults source.old < S.faults source.new)) }
-    ensures end { IfOk result (λ output. (purpose : Purpose) → IsFor (map (λ word. string_bytes word) words.now) purpose → ReadsFor purpose →
-        IsOver output.status → IfSome (S.left source.old) (λ _. S.left source.new ≡ Some [])) }
-    ensures refused { IfOk result (λ output. (purpose : Purpose) → IsFor (map (λ word. string_bytes word) words.now) purpose → ReadsFor purpose →
-        output.status ≡ Status.Input → IsTakenFrom (S.left source.old) (S.left source.new)) }
+    ensures ends { IfOk result (λ output. EndsWith (map (λ word. string_bytes word) words.now) (source.new ≡ source.old)
+        (S.left source.old) (S.left source.new) (S.faults source.old) (S.faults source.new) output.status) }
     ensures unread { (purpose : Purpose) → IsFor (map (λ word. string_bytes word) words.now) purpose → ¬ (ReadsFor purpose) → source.new ≡ source.old }
 {
     law_one_purpose();
