@@ -37,14 +37,14 @@ pub(crate) fn begin<D: Disk>(
     requires compiled { IsCompiled (schema_of prepared.workflow) prepared.compiled }
     requires steps { IsStepCount call.steps }
     requires faults { D.faults disk < 2 ^ 64 - 1 }
-    ensures run { IfOk result (λ keep. run_of keep ≡ run_from prepared.entry.workflow call.entry.steps (run_of keep).history) }
-    ensures found { IfOk result (λ keep. IsFound D.tells (D.seen disk) prepared.entry.workflow call.entry.steps (run_of keep).history) }
+    ensures run { IfOk result (λ keep. run_of keep ≡ run_from prepared.workflow call.entry.steps (run_of keep).history) }
+    ensures found { IfOk result (λ keep. IsFound D.tells (D.seen disk) prepared.workflow call.entry.steps (run_of keep).history) }
     ensures whole { IfOk result (λ keep. is_broken keep ≡ false) }
     ensures no_fault { IfOk result (λ keep. D.faults (disk_of keep) ≡ D.faults disk) }
     ensures file { IfOk result (λ keep. IsAt D.tells D.moment D.image D.synced D.seen D.faults D.chosen D.file_at call.entry.path.now (disk_of keep)) }
     ensures begun { IfOk result (λ keep. IsSafe D.tells D.moment D.image D.synced D.seen D.faults D.chosen D.file_at disk (disk_of keep)) }
     ensures hindered { IfErr result (λ hindered. IsHindered D.tells D.moment D.image D.synced D.seen D.faults D.chosen D.file_at
-        call.entry.path.now prepared.entry.workflow call.entry.steps disk hindered.why hindered.disk) }
+        call.entry.path.now prepared.workflow call.entry.steps disk hindered.why hindered.disk) }
     ensures safe { IfErr result (λ hindered. IsSafe D.tells D.moment D.image D.synced D.seen D.faults D.chosen D.file_at disk hindered.disk) }
 {
     let Prepared { workflow, compiled } = prepared;
