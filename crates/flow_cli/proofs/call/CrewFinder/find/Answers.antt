@@ -10,5 +10,5 @@ returns-in-Run g c = rw c.in-Run.is c.run_script.ensures
 
 pub returns-in_default : goal.returns-in_default
 returns-in_default g c =
-    rw audit_left c.args.self.now.request.mode c.requires.mode c.requires.reads c.in_default.not-Run
+    rw (audit_left c.args.self.now.request.mode c.requires.mode c.requires.reads c.in_default.not-Run)
     (subst (λ (text : List ℕ). Answers (AuditsText (said c.args.input.now.script) text) c.audit_text.result) c.deref.ensures.value c.audit_text.ensures)
