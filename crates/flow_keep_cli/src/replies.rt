@@ -80,7 +80,10 @@ pub fn reply_to_all<K: Sink, D: Disk>(
         (K.held sink.old) (K.held sink.new) D.tells (D.image (disk_of keep.new) (D.moment (disk_of keep.new)))) }
 {
     for command in commands {
-        let line = serve(alloc, keep, command)?;
+        let line = match serve(alloc, keep, command) {
+            Ok(line) => line,
+            Err(cut) => return Err(cut),
+        };
         let Ok(()) = write_all(sink, &line) else {
             return Err(Cut::Sink);
         };
