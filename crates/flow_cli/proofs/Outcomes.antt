@@ -1,7 +1,7 @@
 -- What is written of a source, and what becomes of it.
 use Rattle.std.proofs.Common.{◌≡◌, ◌≢◌, ◌<◌, ◌≤◌, ℕ, Bool, List, [], ◌∷◌, length, Option, None, Some, Result, Ok, Err, sym, subst, inl, inr, arith, refl, ◌+◌, ◌∙◌, ap}
 use Rattle.std.specs.declared.alloc.AllocError.{AllocError}
-use Rattle.std.specs.Prelude.{◌↔◌, IfOk}
+use Rattle.std.specs.Prelude.{◌↔◌, IfOk, IfErr}
 use Rattle.flow_model.specs.declared.history.Call.{Call}
 use Rattle.flow_model.specs.declared.history.Outcome.{Outcome}
 use Rattle.flow_model.specs.Verdict as model
@@ -22,7 +22,7 @@ use Rattle.flow_findings.specs.declared.refused.Refused.{Refused}
 use Rattle.flow_findings.specs.declared.refused.Refused.TheVariants as refused
 use Rattle.flow_findings.specs.Refusing as refusing
 use Rattle.flow_words.specs.declared.request.Mode.{Mode}
-use Rattle.flow_words.specs.declared.request.Mode.TheVariants.{Drive, Run, Check, Verify, Trace, Gen, Large, Duty, Audit}
+use Rattle.flow_words.specs.declared.request.Mode.TheVariants.{Run, Gen, Large, Audit}
 use Rattle.flow_words.specs.declared.request.Request.{Request}
 use Rattle.flow_front.specs.declared.output.Output.{Output}
 use Rattle.flow_front.specs.declared.status.Status.{Status}
@@ -36,7 +36,7 @@ use Rattle.flow_front.specs.Input.{IsInputOf, IsReadWhole, LeavesSource}
 use Rattle.flow_reply.specs.Verdict.{ended}
 use Rattle.flow_cli.specs.Finding.{Finding, driven, ran, traced, audited, verified, tried, summarized, status_of_checked, status_of_found, finding_status, came_status, IsFound, Answers}
 use Rattle.flow_cli.specs.Large.{RunsGenerated}
-use Rattle.flow_cli.specs.Output.{Reads, StartsNoThreads, Finds, IsTold, WritesOf, WritesAs, IsWhole, IsOfInput, IsOver, IsTakenFrom, IsOutcome, IsText, IsSummarized}
+use Rattle.flow_cli.specs.Output.{Reads, StartsNoThreads, Finds, IsTold, TellsFound, WritesOf, WritesAs, IsWhole, IsOfInput, IsOver, IsTakenFrom, IsOutcome, IsText, IsSummarized}
 use Rattle.flow_cli.proofs.Refusals.{finds_later}
 
 -- ---- statuses of what is found
@@ -113,11 +113,11 @@ came_of_input mode gives request said text (Err why) h = (finds_later mode gives
 
 -- what is found in what is said is told
 module _ (mode : Mode) (gives : Call → Outcome → Bool) (request : Request) (said : Said) (text : List ℕ) where
-  pub found_told : (output : Output) → Answers (Finds mode gives request said text) (Ok output) →
+  found_told : (output : Output) → Answers (Finds mode gives request said text) (Ok output) →
       IsTold (Finds mode gives request said text) said output.status output.text.items
   found_told output (found, may, is) = (Ok found, may, record { status_is = is.status_is; output_is = is.output_is })
 
-  pub stop_told : (why : Stop) (result : Result Output AllocError) → Answers (Finds mode gives request said text) (Err why) →
+  stop_told : (why : Stop) (result : Result Output AllocError) → Answers (Finds mode gives request said text) (Err why) →
       IfOk result (λ output. TellsStop (event_names said.decls) why output.status output.text.items) →
       IfOk result (λ output. IsTold (Finds mode gives request said text) said output.status output.text.items)
   stop_told (stop.Refused why) (Ok output) may told = (Err why, may, record { status_is = told.status_is; output_is = told.output_is })
@@ -125,9 +125,20 @@ module _ (mode : Mode) (gives : Call → Outcome → Bool) (request : Request) (
   stop_told why (Err e) may told = tt
 
   -- a refusal of it can be
-  pub can_be_told : (why : Stop) → Answers (Finds mode gives request said text) (Err why) → IsStop (refusing.IsTold (event_names said.decls)) why
+  can_be_told : (why : Stop) → Answers (Finds mode gives request said text) (Err why) → IsStop (refusing.IsTold (event_names said.decls)) why
   can_be_told (stop.Refused why) may = (finds_later mode gives request said text why may).0
   can_be_told stop.NoMemory may = tt
+
+  pub all_can_be_told : (found : Result Output Stop) → Answers (Finds mode gives request said text) found → IfErr found (IsStop (refusing.IsTold (event_names said.decls)))
+  all_can_be_told (Ok output) may = tt
+  all_can_be_told (Err why) may = can_be_told why may
+
+  pub all_told : (found : Result Output Stop) (result : Result Output AllocError) → Answers (Finds mode gives request said text) found →
+      IfOk result (TellsFound (event_names said.decls) found) → IfOk result (λ output. IsTold (Finds mode gives request said text) said output.status output.text.items)
+  all_told found (Err e) may told = tt
+  all_told (Ok output) (Ok written) may is =
+      subst (λ (o : Output). IsTold (Finds mode gives request said text) said o.status o.text.items) (sym is) (found_told output may)
+  all_told (Err why) (Ok written) may told = stop_told why (Ok written) may told
 
 module _ (mode : Mode) (gives : Call → Outcome → Bool) (request : Request) (left left' : Option (List ℕ)) (faults faults' : ℕ) (reads : Reads mode) where
   abbrev Written : Status → List ℕ → Type 0
@@ -243,29 +254,3 @@ pub read_alone : (mode : Mode) → StartsNoThreads mode → mode ≢ Gen → Rea
 read_alone Gen alone other = absurd (other refl)
 read_alone Large alone other = absurd alone
 read_alone mode alone other = tt
-
--- what is written in such a mode is the same whatever the gate
-module _ (request : Request) (source : Option (List ℕ)) (one other : Call → Outcome → Bool) where
-  write_same : (mode : Mode) → StartsNoThreads mode → (status : Status) (output : List ℕ) → WritesAs mode one request source status output →
-      WritesAs mode other request source status output
-  write_same Run alone status output written = absurd alone
-  write_same Large alone status output written = absurd alone
-  write_same Audit alone status output written = absurd alone
-  write_same Drive alone status output written = written
-  write_same Check alone status output written = written
-  write_same Verify alone status output written = written
-  write_same Trace alone status output written = written
-  write_same Duty alone status output written = written
-  write_same Gen alone status output written = written
-
-  pub any_gate : StartsNoThreads request.mode → (source' : Option (List ℕ)) (faults faults' : ℕ) (status : Status) (output : List ℕ) →
-      IsOutcome (WritesAs request.mode one request source) (Reads request.mode) source source' faults faults' status output →
-      IsOutcome (WritesAs request.mode other request source) (Reads request.mode) source source' faults faults' status output
-  any_gate alone source' faults faults' status output is = record {
-    writes = write_same request.mode alone status output is.writes;
-    whole = is.whole;
-    words = is.words;
-    fault = is.fault;
-    end = is.end;
-    refused = is.refused;
-  }

@@ -1,5 +1,5 @@
 -- What a call writes, and with which status it ends.
-use Rattle.std.specs.Prelude.{◌≡◌, ◌≢◌, ◌+◌, ◌<◌, ◌≤◌, ◌↔◌, ℕ, Bool, List, [], drop, length, Option, Some, Result, Ok, IfSome, ◌⊎◌}
+use Rattle.std.specs.Prelude.{◌≡◌, ◌≢◌, ◌+◌, ◌<◌, ◌≤◌, ◌↔◌, ℕ, Bool, List, [], drop, length, Option, Some, Result, Ok, Err, IfSome, ◌⊎◌}
 use Rattle.flow_model.specs.declared.limits.TheConstants.{GREATEST_INPUT}
 use Rattle.flow_model.specs.declared.history.Call.{Call}
 use Rattle.flow_model.specs.declared.history.Outcome.{Outcome}
@@ -19,7 +19,9 @@ use Rattle.flow_front.specs.declared.input.Input.{Input}
 use Rattle.flow_front.specs.declared.output.Output.{Output}
 use Rattle.flow_front.specs.declared.status.Status.{Status}
 use Rattle.flow_front.specs.declared.status.Status.TheVariants as status
+use Rattle.flow_front.specs.declared.stop.Stop.{Stop}
 use Rattle.flow_front.specs.Status.{Tells}
+use Rattle.flow_front.specs.Stop.{TellsStop}
 use Rattle.flow_front.specs.Refusal.{the_source, IsCause}
 use Rattle.flow_front.specs.Input.{IsInputOf}
 use Rattle.flow_cli.specs.Finding.{Finding, generated, IsWritten}
@@ -62,9 +64,6 @@ StartsNoThreads Large = ⊥
 StartsNoThreads Audit = ⊥
 StartsNoThreads other = Unit {0}
 
-abbrev pub StartsThreads : Mode → Type 0
-StartsThreads mode = ¬ (StartsNoThreads mode)
-
 -- What a mode that reads finds in what is said and in the text that follows: `check` and `run` do not look at that. Only what workers run
 -- asks the gate.
 abbrev pub Finds : Mode → (Call → Outcome → Bool) → Request → Said → List ℕ → Result Finding Refused → Type 0
@@ -85,6 +84,11 @@ FindsIn gives request input came = Finds request.mode gives request (script.said
 -- something that may come of what is said is written
 abbrev pub IsTold : (Result Finding Refused → Type 0) → Said → Status → List ℕ → Type 0
 IsTold P s status output = (came : Result Finding Refused) × P came × IsWritten (event_names s.decls) came status output
+
+-- the output is the one that was found, or says why nothing was
+abbrev pub TellsFound : List (List ℕ) → Result Output Stop → Output → Type 0
+TellsFound events (Ok found) output = output ≡ found
+TellsFound events (Err stop) output = TellsStop events stop output.status output.text.items
 
 -- the source is refused, and the output says why
 pub record IsNotRead (source : Option (List ℕ)) (status : Status) (output : List ℕ) : Type 0 where

@@ -1,4 +1,4 @@
-ghost use Rattle.std.specs.Prelude.{◌≡◌, ◌<◌, ◌-◌, ◌≤◌, ◌^◌, ◌↔◌, ◌⊎◌, ℕ, Bool, false, List, [], length, map, Some, IfOk, IfSome};
+ghost use Rattle.std.specs.Prelude.{◌≡◌, ◌<◌, ◌-◌, ◌≤◌, ◌^◌, ◌↔◌, ◌⊎◌, ℕ, Bool, List, [], length, map, Some, IfOk, IfErr, IfSome};
 ghost use Rattle.std.specs.String.{string_bytes};
 ghost use Rattle.std.specs.Io.KnownBytes.{Appends};
 ghost use Rattle.flow_io.specs.Sink.{AppendsPart};
@@ -12,8 +12,10 @@ ghost use Rattle.flow_words.specs.declared.purpose.Purpose.{Purpose};
 ghost use Rattle.flow_words.specs.Words.{HasWithin, IsFor, IsWithin};
 ghost use Rattle.flow_front.specs.declared.status.Status.{Status};
 ghost use Rattle.flow_cli.specs.Finding.{Answers};
-ghost use Rattle.flow_words.specs.declared.request.Request.{Request};
-ghost use Rattle.flow_cli.specs.Output.{Reads, ReadsFor, StartsNoThreads, StartsThreads, FindsIn, IsTold, IsText, IsGenerated, IsAnswer, IsServed, WritesFor, Writes, IsWhole, IsOver, IsTakenFrom, IsOutcome, EndsWith};
+ghost use Rattle.flow_findings.specs.Refusing.{IsTold};
+ghost use Rattle.flow_form.specs.Names.{event_names};
+ghost use Rattle.flow_front.specs.Stop.{IsStop};
+ghost use Rattle.flow_cli.specs.Output.{Reads, ReadsFor, StartsNoThreads, FindsIn, TellsFound, IsText, IsGenerated, IsAnswer, IsServed, WritesFor, Writes, IsWhole, IsOver, IsTakenFrom, IsOutcome, EndsWith};
 
 use crate::check::check;
 use crate::drive::drive_text;
@@ -21,6 +23,7 @@ use crate::duty::duty_text;
 use crate::run::Crew;
 use crate::trace::trace_text;
 use crate::verify::verify_text;
+use flow_form::Script;
 use flow_front::{Input, Output, Refused, Status, Stop, read_input, refuse, tell};
 use flow_gate::Gate;
 use flow_gen::generate;
@@ -30,97 +33,91 @@ use std::alloc::{AllocError, Global};
 use std::sync::Wait;
 use std::thread::Threads;
 
-/// Who finds an answer in an input: nobody but the call itself, or workers.
-trait Finder {
-    // Whether a gate may answer a call so.
-    ghost gives: { Call → Outcome → Bool };
-
-    // The request that is answered.
-    ghost asked: { Self → Request };
-
-    // The modes that it can answer.
-    ghost takes: { Mode → Type 0 };
-
-    /// What the mode of the request finds in an input.
-    fn find(&self, alloc: Global, input: &Input) -> Result<Output, Stop>
-        requires mode { takes (asked self.now).mode }
-        requires reads { Reads (asked self.now).mode }
-        requires closed { IsClosed (said input.now.script) }
-        requires short { length input.now.second.items ≤ GREATEST_INPUT }
-        ensures { Answers (FindsIn gives (asked self.now) input.now) result };
-}
-
-/// A request that is answered with no runtime: no thread is started, and nothing is waited for.
-#[derive(Drop)]
-struct Alone {
-    request: Request,
-    ghost within: { IsWithin request },
-}
-
-impl Finder for Alone {
-    ghost gives = { λ _ _. false };
-
-    ghost asked = { λ alone. alone.request };
-
-    ghost takes = { StartsNoThreads };
-
-    fn find(&self, alloc: Global, input: &Input) -> Result<Output, Stop> {
-        let (script, text) = (&input.script, &input.second);
-        match self.request.mode {
-            Mode::Drive => drive_text(alloc, script, text, self.request.steps),
-            Mode::Check => check(alloc, script),
-            Mode::Verify => verify_text(alloc, script, text),
-            Mode::Trace => trace_text(alloc, script, text),
-            Mode::Duty => duty_text(alloc, script, text, self.request.steps),
-            Mode::Run | Mode::Gen | Mode::Large | Mode::Audit => unreachable!(),
-        }
+/// What the mode of a request, which reads and starts no threads, finds in an input.
+fn find(alloc: Global, request: Request, input: &Input) -> Result<Output, Stop>
+    requires within { IsWithin request }
+    requires reads { Reads request.mode }
+    requires alone { StartsNoThreads request.mode }
+    requires closed { IsClosed (said input.now.script) }
+    requires short { length input.now.second.items ≤ GREATEST_INPUT }
+    ensures { (gives : Call → Outcome → Bool) → Answers (FindsIn gives request input.now) result }
+{
+    let script = &input.script;
+    match request.mode {
+        Mode::Drive => drive_text(alloc, script, &input.second, request.steps),
+        Mode::Check => check(alloc, script),
+        Mode::Verify => verify_text(alloc, script, &input.second),
+        Mode::Trace => trace_text(alloc, script, &input.second),
+        Mode::Duty => duty_text(alloc, script, &input.second, request.steps),
+        Mode::Run | Mode::Gen | Mode::Large | Mode::Audit => unreachable!(),
     }
 }
 
-impl<'a, R: Threads + Wait + Sync, G: Gate> Finder for Crew<'a, R, G> {
-    ghost gives = { G.gives };
-
-    ghost asked = { λ crew. crew.request };
-
-    ghost takes = { StartsThreads };
-
-    fn find(&self, alloc: Global, input: &Input) -> Result<Output, Stop> {
+impl<'a, R: Threads + Wait + Sync, G: Gate> Crew<'a, R, G> {
+    /// What the mode of the request, which reads and starts threads, finds in an input.
+    fn find(&self, alloc: Global, input: &Input) -> Result<Output, Stop>
+        requires reads { Reads self.now.request.mode }
+        requires threads { ¬ (StartsNoThreads self.now.request.mode) }
+        requires closed { IsClosed (said input.now.script) }
+        ensures { Answers (FindsIn G.gives self.now.request input.now) result }
+    {
         match self.request.mode {
             Mode::Run => self.run_script(alloc, &input.script),
-            // the other mode that reads and starts threads
+            // no other mode reads and starts threads
             _ => self.audit_text(alloc, &input.script, &input.second),
         }
     }
-}
 
-/// What is written of an input.
-fn answer_input<F: Finder>(alloc: Global, finder: &F, input: &Input) -> Result<Output, AllocError>
-    requires mode { F.takes (F.asked finder.now).mode }
-    requires reads { Reads (F.asked finder.now).mode }
-    requires closed { IsClosed (said input.now.script) }
-    requires short { length input.now.second.items ≤ GREATEST_INPUT }
-    ensures { IfOk result (λ output. IsTold (FindsIn F.gives (F.asked finder.now) input.now) (said input.now.script) output.status output.text.items) }
-{
-    match finder.find(alloc, input) {
-        Ok(output) => Ok(output),
-        Err(stop) => refuse(alloc, stop, Some(&input.script)),
+    /// What is written of what the source gives.
+    fn answer_source<S: Source>(&self, alloc: Global, source: &mut S) -> Result<Output, AllocError>
+        requires reads { Reads self.now.request.mode }
+        requires threads { ¬ (StartsNoThreads self.now.request.mode) }
+        requires source_counts { S.faults source.old < 2 ^ 64 - 1 }
+        ensures { IfOk result (IsAnswer S.left S.faults G.gives self.now.request source.old source.new) }
+    {
+        match read_input(alloc, source) {
+            Ok(input) => {
+                let found = self.find(alloc, &input);
+                let output = tell_found(alloc, found, &input.script);
+                drop(input);
+                output
+            }
+            Err(stop) => refuse(alloc, stop, None),
+        }
     }
 }
 
-/// What is written of what the source gives.
-fn answer_source<F: Finder, S: Source>(
+/// What is written of what was found in an input, or of why nothing was.
+fn tell_found(
     alloc: Global,
-    finder: &F,
+    found: Result<Output, Stop>,
+    script: &Script,
+) -> Result<Output, AllocError>
+    requires { IfErr found (IsStop (IsTold (event_names (said script.now).decls))) }
+    ensures { IfOk result (TellsFound (event_names (said script.now).decls) found) }
+{
+    match found {
+        Ok(output) => Ok(output),
+        Err(stop) => refuse(alloc, stop, Some(script)),
+    }
+}
+
+/// What is written of what the source gives, where no threads are started.
+fn answer_source<S: Source>(
+    alloc: Global,
+    request: Request,
     source: &mut S,
 ) -> Result<Output, AllocError>
-    requires mode { F.takes (F.asked finder.now).mode }
-    requires reads { Reads (F.asked finder.now).mode }
+    requires within { IsWithin request }
+    requires reads { Reads request.mode }
+    requires alone { StartsNoThreads request.mode }
     requires source_counts { S.faults source.old < 2 ^ 64 - 1 }
-    ensures { IfOk result (IsAnswer S.left S.faults F.gives (F.asked finder.now) source.old source.new) }
+    ensures { (gives : Call → Outcome → Bool) → IfOk result (IsAnswer S.left S.faults gives request source.old source.new) }
 {
     match read_input(alloc, source) {
         Ok(input) => {
-            let output = answer_input(alloc, finder, &input);
+            let found = find(alloc, request, &input);
+            let output = tell_found(alloc, found, &input.script);
             drop(input);
             output
         }
@@ -154,7 +151,7 @@ pub fn answer_alone<S: Source>(
 {
     match request.mode {
         Mode::Gen => write_generated(alloc, request),
-        _ => answer_source(alloc, &Alone { request }, source),
+        _ => answer_source(alloc, request, source),
     }
 }
 
@@ -172,7 +169,7 @@ fn answer<R: Threads + Wait + Sync, S: Source, G: Gate>(
     ensures unread { ¬ (Reads request.mode) → source.new ≡ source.old }
 {
     match request.mode {
-        Mode::Run | Mode::Audit => answer_source(alloc, &Crew { rt, gate, request }, source),
+        Mode::Run | Mode::Audit => Crew { rt, gate, request }.answer_source(alloc, source),
         Mode::Large => Crew { rt, gate, request }.run_generated(alloc),
         _ => answer_alone(alloc, request, source),
     }

@@ -51,7 +51,12 @@ impl<'a, R: Threads + Wait + Sync, G: Gate> Crew<'a, R, G> {
     {
         let Prepared { workflow, compiled } = prepared;
         let core = Core::start(alloc, workflow, compiled, self.request.steps)?;
-        let (book, end) = run_crew(self.rt, alloc, Book::new(core, self.gate), self.request.workers);
+        let (book, end) = run_crew(
+            self.rt,
+            alloc,
+            Book::new(core, self.gate),
+            self.request.workers,
+        );
         let core = book.into_core();
         // what the core keeps of the history
         let _ = core.history();
