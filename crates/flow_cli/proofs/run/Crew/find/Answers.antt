@@ -3,7 +3,7 @@ use Rattle.flow_form.specs.Script.{said}
 use Rattle.flow_cli.specs.Finding.{Answers}
 use Rattle.flow_cli.specs.Audit.{AuditsText}
 use Rattle.flow_cli.proofs.Outcomes.{audit_left}
-use Rattle.flow_cli.proofs.call.Crew.find.Goals as goal
+use Rattle.flow_cli.proofs.run.Crew.find.Goals as goal
 
 pub returns-in-Run : goal.returns-in-Run
 returns-in-Run g c = rw c.in-Run.is c.run_script.ensures

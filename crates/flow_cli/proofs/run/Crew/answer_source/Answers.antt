@@ -1,7 +1,7 @@
 use Rattle.std.proofs.lemmas.Result.{IfOk-weaker}
 use Rattle.flow_form.specs.Script.{said}
 use Rattle.flow_cli.proofs.Outcomes.{all_can_be_told, all_told, all_answered, stopped_read}
-use Rattle.flow_cli.proofs.call.Crew.answer_source.Goals as goal
+use Rattle.flow_cli.proofs.run.Crew.answer_source.Goals as goal
 
 pub tell_found-output-requires : goal.tell_found-output-requires
 tell_found-output-requires g c =
