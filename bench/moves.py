@@ -198,13 +198,16 @@ def random_cases(desk, count, chance):
 def killed(desk, count, chance):
     """Moves that are killed at random moments."""
     seen = {"as it was": 0, "moved": 0, "finished": 0}
-    for number in range(count):
+    case, begun = desk.new("timed", BASE, False), time.monotonic()
+    desk.call("move", case, "--workflow", desk.text("new.flow", STEP_MORE), "--as", "ann")
+    longest = time.monotonic() - begun
+    for _ in range(count):
         case = desk.new("kill", BASE, False)
         for line in ["take enter", "done 1", "take check", "done 2"]:
             desk.ask(case, line, "ann")
         entries, text = told(case), desk.text("new.flow", STEP_MORE)
         call = subprocess.Popen([desk.program, "move", case, "--workflow", text, "--as", "ann"], stdout=subprocess.DEVNULL, stderr=subprocess.DEVNULL)
-        time.sleep(chance.uniform(0, 0.08))
+        time.sleep(chance.uniform(longest / 2, 2 * longest))
         call.kill()
         call.wait()
         how = "as it was"
