@@ -1,6 +1,5 @@
 -- What `run` finds.
 use Rattle.std.specs.Prelude.{◌≡◌, ◌≤◌, ℕ, Bool, Result, Ok}
-use Rattle.flow_model.specs.declared.limits.TheConstants.{MOST_WORKERS}
 use Rattle.flow_model.specs.declared.history.Call.{Call}
 use Rattle.flow_model.specs.declared.history.Entry.{Entry}
 use Rattle.flow_model.specs.declared.history.Outcome.{Outcome}
@@ -8,34 +7,14 @@ use Rattle.flow_model.specs.Lists.{Each}
 use Rattle.flow_model.specs.Verdict as model
 use Rattle.flow_core.specs.Run.{Run}
 use Rattle.flow_core.specs.Lawful.{IsLawful}
-use Rattle.flow_crew.specs.declared.ends.End.{End}
-use Rattle.flow_crew.specs.declared.ends.End.TheVariants as end
 use Rattle.flow_crew.specs.Invariant.{IsByWorkers}
 use Rattle.flow_form.specs.Script.{Said}
 use Rattle.flow_workflow.specs.Definition.{Definition, schema_of}
 use Rattle.flow_findings.specs.declared.refused.Refused.{Refused}
 use Rattle.flow_reply.specs.declared.verdict.Verdict.{Verdict}
-use Rattle.flow_reply.specs.declared.verdict.Verdict.TheVariants as verdict
 use Rattle.flow_reply.specs.Conclusion.{Means}
 use Rattle.flow_front.specs.Stages.{Prepares}
-use Rattle.flow_cli.specs.Drive.{IsStepCount}
 use Rattle.flow_cli.specs.Finding.{Finding, ran}
-
--- so many workers can run a workflow
-abbrev pub IsWorkerCount : ℕ → Type 0
-IsWorkerCount workers = (1 ≤ workers) × (workers ≤ MOST_WORKERS)
-
--- how a run is made: in so many steps at most, by so many workers
-pub record IsCrew (steps workers : ℕ) : Type 0 where
-  pub steps_counted : IsStepCount steps
-  pub workers_counted : IsWorkerCount workers
-
--- an end as a verdict
-abbrev pub verdict_of : End → Verdict
-verdict_of end.Committed = verdict.Committed
-verdict_of end.Stuck = verdict.Stuck
-verdict_of (end.NoOther leaf) = verdict.NoOther leaf
-verdict_of end.Spent = verdict.Spent
 
 -- The run is one of this workflow by so many workers, in so many steps at most, where outcomes pass the test of the gate,
 -- and it came to this verdict. Of its history the headline holds: it is lawful.
