@@ -17,6 +17,21 @@ pub fn read_file<R: Files<File = File> + AllocGlobal>(
     read_front(rt.alloc(), File::open(rt, path)?, limit)
 }
 
+/// The same of standard input where the path is `-`.
+pub fn read_source<R: Files<File = File> + Input + AllocGlobal>(
+    rt: &R,
+    path: &str,
+    limit: usize,
+) -> io::Result<Vec<u8>>
+    requires { limit < usize.MAX }
+{
+    if path == "-" {
+        read_front(rt.alloc(), rt.reader(), limit)
+    } else {
+        read_file(rt, path, limit)
+    }
+}
+
 /// Whether there is a folder of that name.
 pub fn is_folder<R: Files<File = File>>(rt: &R, path: &str) -> bool {
     match fs::metadata(rt, path) {

@@ -4,11 +4,13 @@
 mod input;
 mod message;
 mod output;
+mod sheet;
 mod status;
 mod words;
 
-pub use input::{is_folder, read_file};
-pub use message::{say_undrawn, say_unread};
+pub use input::{is_folder, read_file, read_source};
+pub use message::{say_no_source, say_undrawn, say_unread};
 pub use output::write_out;
+pub use sheet::sheet_in;
 pub use status::{BUSY, DISK, INPUT, NO_MEMORY, READ_FAULT, REFUSED, WORDS, WRITE_FAULT};
-pub use words::{MOST_JOBS, USUAL_JOBS, flag, format_called, number_in, option, required};
+pub use words::{MOST_JOBS, USUAL_JOBS, flag, number_in, option, required};

@@ -1,4 +1,4 @@
-use crate::status::{DISK, INPUT, NO_MEMORY};
+use crate::status::{DISK, INPUT, NO_MEMORY, READ_FAULT};
 use flow_desk::{DeskStop, GREATEST_RUN, Position, Telling, position_of};
 use std::io;
 
@@ -6,6 +6,16 @@ use std::io;
 pub fn say_unread(rt: &impl Eprint, path: &str, error: io::Error) -> u8 {
     let _ = eprintln!(rt; "{path}: {error}");
     DISK
+}
+
+/// Says that a file, or standard input, was not read, and gives the status.
+pub fn say_no_source(rt: &impl Eprint, path: &str, error: io::Error) -> u8 {
+    if path == "-" {
+        let _ = eprintln!(rt; "standard input: {error}");
+        READ_FAULT
+    } else {
+        say_unread(rt, path, error)
+    }
 }
 
 /// Says a refusal of flow's, with its place in the workflow's text, and gives its status.

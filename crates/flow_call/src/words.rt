@@ -1,5 +1,4 @@
 use clap::{Arg, ArgAction};
-use flow_desk::Format;
 use std::alloc::Global;
 
 /// How many threads work at most.
@@ -43,13 +42,4 @@ pub fn flag<'a>(alloc: Global, name: &'a str, help: &'a str) -> Arg<'a> {
         .long(name)
         .help(help)
         .action(ArgAction::SetTrue)
-}
-
-/// The form of a picture of that name.
-pub fn format_called(name: Option<&str>) -> Format {
-    match name {
-        Some("mermaid") => Format::Mermaid,
-        Some("dot") => Format::Dot,
-        _ => Format::Svg,
-    }
 }

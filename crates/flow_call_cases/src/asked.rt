@@ -4,9 +4,9 @@ ghost use Rattle.std.specs.Prelude.{◌≡◌};
 use crate::faults::{say_folder, say_stop};
 use crate::words::line_in;
 use clap::ArgMatches;
-use flow_call::{NO_MEMORY, REFUSED, write_out};
+use flow_call::{DISK, NO_MEMORY, REFUSED, write_out};
 use flow_case_book::{Asker, CaseBook, KeptTexts, open_case};
-use flow_case_files::{CaseDisks, open_disks, read_case};
+use flow_case_files::{CaseDisks, FolderFault, is_cut_off, open_disks, read_case};
 use flow_case_talk::{Form, Outcome, Reply, begin_line, idle_lines};
 use flow_disk::{Disk, FileDisk};
 use jiff::Timestamp;
@@ -20,18 +20,18 @@ use std::time::{Clock, Duration};
 pub(crate) const WAIT: u64 = 5;
 
 /// A case in files of the system.
-pub(crate) type FileCase<'a, R> = CaseBook<FileDisk<'a, R>, FileDisk<'a, R>>;
+pub type FileCase<'a, R> = CaseBook<FileDisk<'a, R>, FileDisk<'a, R>>;
 
 /// The words that say who asks, and when.
 #[derive(Drop)]
-pub(crate) struct AskerWords {
-    name: String,
-    at: String,
-    note: String,
+pub struct AskerWords {
+    pub name: String,
+    pub at: String,
+    pub note: String,
 }
 
 /// The present time as RFC 3339, to the second.
-pub(crate) fn stamp<R: Clock + AllocGlobal>(rt: &R) -> Result<String, AllocError> {
+pub fn stamp<R: Clock + AllocGlobal>(rt: &R) -> Result<String, AllocError> {
     match Timestamp::now(rt) {
         Ok(now) => format!(in rt.alloc(); "{now:.0}"),
         Err(_) => format!(in rt.alloc(); "no time"),
@@ -52,7 +52,8 @@ fn login_name<R: Env + AllocGlobal>(rt: &R) -> Result<String, AllocError> {
     }
 }
 
-pub(crate) fn asker_in<R: Env + Clock + AllocGlobal>(
+/// Who asks, by the words of the call.
+pub fn asker_in<R: Env + Clock + AllocGlobal>(
     rt: &R,
     words: &ArgMatches<'_>,
 ) -> Result<AskerWords, AllocError> {
@@ -69,7 +70,7 @@ pub(crate) fn asker_in<R: Env + Clock + AllocGlobal>(
 }
 
 /// How long to wait for another command.
-pub(crate) fn wait_in(words: &ArgMatches<'_>) -> Duration {
+pub fn wait_in(words: &ArgMatches<'_>) -> Duration {
     let seconds = match words.get_str("wait") {
         Some(text) => text.parse::<u64>().unwrap_or(WAIT),
         None => WAIT,
@@ -85,6 +86,28 @@ fn form_in(words: &ArgMatches<'_>) -> Form {
     }
 }
 
+/// Says why a case is not read, and gives the status. A move that was cut off is told as such.
+fn say_unread_case<R: Files<File = File> + AllocGlobal + Eprint>(
+    rt: &R,
+    case: &str,
+    fault: FolderFault,
+) -> u8 {
+    match is_cut_off(rt, case) {
+        Ok(true) => {
+            drop(fault);
+            let _ = eprintln!(rt;
+                "{case}: a move was cut off: `flowdesk move {case}` finishes it. Nothing is lost"
+            );
+            DISK
+        }
+        Ok(false) => say_folder(rt, case, fault),
+        Err(AllocError) => {
+            drop(fault);
+            NO_MEMORY
+        }
+    }
+}
+
 /// The texts of the case, to be kept with it.
 fn texts_of<R: Files<File = File> + AllocGlobal + Eprint>(
     rt: &R,
@@ -92,7 +115,7 @@ fn texts_of<R: Files<File = File> + AllocGlobal + Eprint>(
 ) -> Result<KeptTexts, u8> {
     let texts = match read_case(rt, case) {
         Ok(texts) => texts,
-        Err(fault) => return Err(say_folder(rt, case, fault)),
+        Err(fault) => return Err(say_unread_case(rt, case, fault)),
     };
     match text_or(rt, None, case) {
         Ok(path) => Ok(KeptTexts {
@@ -105,34 +128,43 @@ fn texts_of<R: Files<File = File> + AllocGlobal + Eprint>(
     }
 }
 
-/// Opens the case for this process alone.
-pub(crate) fn opened<'a, R: Files<File = File> + Clock + AllocGlobal + Eprint>(
+/// Opens the case for this process alone. Its texts are read once it is: till then it may be moved.
+pub fn opened<'a, R: Files<File = File> + Clock + AllocGlobal + Eprint>(
     rt: &'a R,
     case: &str,
     wait: Duration,
     at: &str,
 ) -> Result<FileCase<'a, R>, u8> {
-    let kept = texts_of(rt, case)?;
+    // a folder that is no case stays as it is
+    let seen = texts_of(rt, case)?;
+    drop(seen);
     let Ok(at) = text_or(rt, None, at) else {
         return Err(NO_MEMORY);
     };
     match open_disks(rt, case, wait) {
-        Ok(disks) => opened_with(rt, case, kept, disks, at),
+        Ok(disks) => opened_with(rt, case, disks, at),
         Err(fault) => Err(say_folder(rt, case, fault)),
     }
 }
 
-/// The case of these texts and files.
+/// The case of these files.
 fn opened_with<'a, R: Files<File = File> + Clock + AllocGlobal + Eprint>(
     rt: &'a R,
     case: &str,
-    kept: KeptTexts,
     disks: CaseDisks<'a, R>,
     at: String,
 ) -> Result<FileCase<'a, R>, u8>
     requires entries { ⟦<FileDisk<'a, R> as Disk>⟧.faults disks.entries ≡ 0 }
     requires trail { ⟦<FileDisk<'a, R> as Disk>⟧.faults disks.trail ≡ 0 }
 {
+    let kept = match texts_of(rt, case) {
+        Ok(kept) => kept,
+        Err(status) => {
+            drop(disks);
+            drop(at);
+            return Err(status);
+        }
+    };
     let CaseDisks { entries, trail } = disks;
     match open_case(rt.alloc(), kept, entries, trail, at) {
         Ok(book) => Ok(book),
@@ -215,7 +247,7 @@ pub(crate) fn say_idle<'a, R: Files<File = File> + AllocGlobal + Print + Eprint>
 }
 
 /// Says what may be begun.
-pub(crate) fn say_begin<'a, R: Files<File = File> + AllocGlobal + Print + Eprint>(
+pub fn say_begin<'a, R: Files<File = File> + AllocGlobal + Print + Eprint>(
     rt: &R,
     book: &mut FileCase<'a, R>,
 ) -> u8 {

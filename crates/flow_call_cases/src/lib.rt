@@ -10,8 +10,8 @@ mod spoken;
 mod whole;
 mod words;
 
-pub use asked::ask_case;
-pub use drawn::draw_case;
+pub use asked::{AskerWords, FileCase, ask_case, asker_in, opened, say_begin, stamp, wait_in};
+pub use drawn::{case_report, draw_case};
 pub use faults::{say_folder, say_policy, say_stop};
 pub use made::{make, without_divider};
 pub use paged::{page_command, write_page};

@@ -6,22 +6,26 @@ use clap::{ArgMatches, Command};
 use flow_call::{NO_MEMORY, option, required, say_undrawn, write_out};
 use flow_case_book::Asker;
 use flow_case_files::read_case;
-use flow_case_page::{CaseShown, case_page};
+use flow_case_page::{CaseShown, case_page, leaf_notes};
 use flow_case_talk::Form;
-use flow_desk::{Format, drawn};
+use flow_desk::{DeskStop, Format, Sheet, drawn};
+use flow_facts::Name;
 use flow_page::print_page;
 use std::alloc::{AllocError, Global};
 use std::fs::File;
 use std::rt::Files;
 use std::time::Clock;
 
-/// The words that ask for the page of a case.
+/// The words that ask for the page of a case, or of a folder of cases.
 pub fn page_command<'a>(alloc: Global) -> Result<Command<'a>, AllocError> {
-    let case = required(alloc, "case", "CASE", "the folder of the case");
+    let case = required(
+        alloc,
+        "case",
+        "CASE|FOLDER",
+        "the folder of the case, or a folder whose folders are cases",
+    );
     Command::new(alloc, "page")
-        .about(
-            "Writes the page of a case as HTML: what may be begun, what is out, its picture and history",
-        )
+        .about("Writes the page of a case as HTML, or that of a folder of cases")
         .arg(case)?
         .arg(option(alloc, "at", "TIME", "when; without it the system's time"))?
         .arg(option(
@@ -29,6 +33,12 @@ pub fn page_command<'a>(alloc: Global) -> Result<Command<'a>, AllocError> {
             "wait",
             "SECONDS",
             "how long to wait for another command on the case; 5 without it",
+        ))?
+        .arg(option(
+            alloc,
+            "jobs",
+            "N",
+            "how many threads look at the cases of a folder, 1 to 64; else 4",
         ))
 }
 
@@ -72,7 +82,7 @@ fn show<'a, R: Files<File = File> + AllocGlobal + Print + Eprint>(
     let Ok(report) = book.reply(asker, b"report", Form::Words) else {
         return NO_MEMORY;
     };
-    let picture = match drawn(rt.alloc(), text, Some(&report.text), Format::Svg) {
+    let picture = match pictured(rt.alloc(), book, text, &report.text) {
         Ok(picture) => picture,
         Err(stop) => return say_undrawn(rt, case, text, case, &stop),
     };
@@ -80,6 +90,22 @@ fn show<'a, R: Files<File = File> + AllocGlobal + Print + Eprint>(
         Ok(page) => write_out(rt, &page),
         Err(AllocError) => NO_MEMORY,
     }
+}
+
+/// The picture of a case, with who did or has each task, and when.
+fn pictured<'a, R: Files<File = File>>(
+    alloc: Global,
+    book: &FileCase<'a, R>,
+    text: &[u8],
+    report: &[u8],
+) -> Result<Vec<u8>, DeskStop> {
+    let notes = leaf_notes(alloc, book)?;
+    let sheet = Sheet {
+        form: Format::Svg,
+        title: Name::new(alloc, b"")?,
+        fold: None,
+    };
+    drawn(alloc, text, Some(report), &notes, &sheet)
 }
 
 /// The page of a case, as HTML.

@@ -4,9 +4,9 @@ ghost use Rattle.flow_plan.specs.Compilation.{IsCompiled};
 use crate::told::{Source, USUAL_BUDGET, drawn_key, source_in, tell_workflow, told_of};
 use clap::ArgMatches;
 use flow_call::{
-    NO_MEMORY, USUAL_JOBS, WORDS, format_called, read_file, say_undrawn, say_unread, write_out,
+    NO_MEMORY, USUAL_JOBS, WORDS, read_source, say_no_source, say_undrawn, sheet_in, write_out,
 };
-use flow_desk::{Format, GREATEST_INPUT, drawn_with_counts};
+use flow_desk::{GREATEST_INPUT, Sheet, count_notes, drawn};
 use flow_front::Prepared;
 use flow_log_cli::{passing_cases, workflow_of};
 use std::alloc::AllocError;
@@ -15,12 +15,12 @@ use std::random::RandomSource;
 use std::rt::Files;
 use std::thread::Threads;
 
-/// The workflow that is drawn: its file, and the bytes of that.
+/// The workflow that is drawn: its file, the bytes of that, and how.
 #[derive(Clone, Copy)]
 struct Drawing<'a> {
     file: &'a str,
     text: &'a [u8],
-    form: Format,
+    sheet: &'a Sheet,
 }
 
 /// Draws a workflow with how many cases of the log passed each leaf, and gives the status.
@@ -41,7 +41,11 @@ fn draw_cases<R: Files<File = File> + AllocGlobal + Print + Eprint + Threads + S
         Err(AllocError) => return NO_MEMORY,
     };
     drop(told);
-    match drawn_with_counts(rt.alloc(), drawing.text, &counts, drawing.form) {
+    let notes = match count_notes(rt.alloc(), &counts) {
+        Ok(notes) => notes,
+        Err(AllocError) => return NO_MEMORY,
+    };
+    match drawn(rt.alloc(), drawing.text, None, &notes, drawing.sheet) {
         Ok(picture) => write_out(rt, &picture),
         Err(stop) => say_undrawn(rt, drawing.file, drawing.text, "", &stop),
     }
@@ -49,7 +53,7 @@ fn draw_cases<R: Files<File = File> + AllocGlobal + Print + Eprint + Threads + S
 
 /// Draws the workflow that the words name with how many cases of the log passed each leaf, and gives the status.
 pub fn draw_log<
-    R: Files<File = File> + RandomSource + AllocGlobal + Print + Eprint + Threads + Sync,
+    R: Files<File = File> + RandomSource + Input + AllocGlobal + Print + Eprint + Threads + Sync,
 >(rt: &R, matches: &ArgMatches<'_>) -> u8 {
     let key = match drawn_key(rt) {
         Ok(key) => key,
@@ -61,15 +65,19 @@ pub fn draw_log<
     ) else {
         return WORDS;
     };
-    let text = match read_file(rt, file, GREATEST_INPUT) {
-        Ok(text) => text,
-        Err(error) => return say_unread(rt, file, error),
+    let sheet = match sheet_in(rt, matches) {
+        Ok(sheet) => sheet,
+        Err(status) => return status,
     };
-    let form = format_called(matches.get_str("form"));
+    let text = match read_source(rt, file, GREATEST_INPUT) {
+        Ok(text) => text,
+        Err(error) => return say_no_source(rt, file, error),
+    };
     match workflow_of(rt.alloc(), &text) {
         Ok(prepared) => {
             let text = text.as_slice();
-            draw_cases(rt, &source, Drawing { file, text, form }, &prepared)
+            let sheet = &sheet;
+            draw_cases(rt, &source, Drawing { file, text, sheet }, &prepared)
         }
         Err(_) => tell_workflow(rt, &text),
     }

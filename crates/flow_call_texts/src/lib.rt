@@ -3,8 +3,9 @@
 
 mod drawn;
 mod explained;
+mod kept;
 mod linted;
 
-pub use drawn::{draw_file, drawing_arguments};
+pub use drawn::{draw_file, draw_file_with, drawing_arguments};
 pub use explained::{explain_command, explain_file};
 pub use linted::{lint_command, lint_file};

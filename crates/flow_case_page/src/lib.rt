@@ -4,6 +4,7 @@
 mod begun;
 mod constraints;
 mod history;
+mod notes;
 mod out;
 mod shown;
 mod tasks;
@@ -11,4 +12,5 @@ mod undone;
 mod words;
 
 pub use history::history_rows;
+pub use notes::leaf_notes;
 pub use shown::{CaseShown, case_page};

@@ -1,11 +1,11 @@
 //! Each leaf of the workflow, and where the run stands at it: what the picture shows, in words.
 
 use crate::history::told_at;
-use crate::words::{label_of, number_text, row, tabled};
+use crate::words::{label_of, number_text};
 use flow_case_talk::{Book, Told};
 use flow_core::Core;
 use flow_facts::Name;
-use flow_page::{Row, Section};
+use flow_page::{Row, Section, row, tabled};
 use flow_standing::{Doing, Standing, claims_out, doings, standings};
 use std::alloc::{AllocError, Global};
 
@@ -72,13 +72,13 @@ fn standing_words(standing: Standing) -> &'static [u8] {
 
 /// A leaf, and the place of the entry that put it on the journal or gave the claim on it.
 #[derive(Clone, Copy)]
-struct Place {
+pub(crate) struct Place {
     leaf: u32,
     entry: usize,
 }
 
 /// The entries that the leaves stand by which are done or out.
-fn places_of(alloc: Global, core: &Core) -> Result<Vec<Place>, AllocError> {
+pub(crate) fn places_of(alloc: Global, core: &Core) -> Result<Vec<Place>, AllocError> {
     let mut places = Vec::new(alloc);
     push_done(&mut places, &doings(alloc, core)?)?;
     for out in claims_out(alloc, core)?.iter() {
@@ -100,7 +100,7 @@ fn push_done(places: &mut Vec<Place>, done: &[Doing]) -> Result<(), AllocError> 
     Ok(())
 }
 
-fn place_of(places: &[Place], leaf: u32) -> Option<usize> {
+pub(crate) fn place_of(places: &[Place], leaf: u32) -> Option<usize> {
     for place in places {
         if place.leaf == leaf {
             return Some(place.entry);

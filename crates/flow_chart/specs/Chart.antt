@@ -11,7 +11,8 @@ use Rattle.flow_chart.specs.declared.lines.Node.{Node}
 use Rattle.flow_chart.specs.declared.lines.Node.TheVariants.{Leaf, Part}
 use Rattle.flow_draw.specs.declared.format.Format.{Format}
 use Rattle.flow_chart.specs.Lines.{edge_text, leaf_text, point_text, bars_text, frame_head, order_lines}
-use Rattle.flow_chart.specs.Words.{head_words, foot_words, frame_foot, notes_open, notes_break, notes_close}
+use Rattle.flow_chart.specs.Title.{chart_head, title_foot}
+use Rattle.flow_chart.specs.Words.{foot_words, frame_foot, notes_open, notes_break, notes_close}
 use Rattle.flow_draw.specs.Escape.{escaped}
 use Rattle.flow_draw.specs.Lookup.{text_at, mark_at, frame_caption}
 use Rattle.flow_draw.specs.Pieces.{joined}
@@ -84,7 +85,8 @@ abbrev pub notes_text : Format → List (List ℕ) → List ℕ
 notes_text format [] = []
 notes_text format (rule ∷ rules) = notes_open format ++ note_lines format 0 (rule ∷ rules) ++ notes_close format
 
--- the parts, the arrows of constraints, and the constraints
-abbrev pub chart_text : Format → Sketch → List Arrow → Labels → List Mark → List (List ℕ) → List ℕ
-chart_text format s arrows labels marks rules =
-    head_words format ++ scene_text format labels marks None 0 s ++ order_lines format arrows ++ notes_text format rules ++ foot_words format
+-- the title, the parts, the arrows of constraints, and the constraints
+abbrev pub chart_text : Format → List ℕ → Sketch → List Arrow → Labels → List Mark → List (List ℕ) → List ℕ
+chart_text format title s arrows labels marks rules =
+    chart_head format title ++ scene_text format labels marks None 0 s ++ order_lines format arrows ++ title_foot format title
+    ++ notes_text format rules ++ foot_words format

@@ -1,3 +1,4 @@
 pub mod Chart
 pub mod Lines
 pub mod Words
+pub mod Title

@@ -9,7 +9,8 @@ ghost use Rattle.flow_chart.specs.Chart.{has_bars, host, first_side, hung_text, 
 use crate::lines::{
     Node, push_bars, push_edge, push_frame_head, push_leaf, push_orders, push_point,
 };
-use crate::words::{foot_words, frame_foot, head_words, notes_break, notes_close, notes_open};
+use crate::title::{push_head, title_foot};
+use crate::words::{foot_words, frame_foot, notes_break, notes_close, notes_open};
 use flow_draw::{Format, Piece, below, frame_caption, mark_at, push_pieces, text_at};
 use flow_facts::Name;
 use flow_view::{Arrow, Fork, Frame, Labels, Mark, Scene};
@@ -23,48 +24,71 @@ pub(crate) struct Ends {
     pub(crate) next: u64,
 }
 
-/// Prints a picture's parts as a flowchart of Mermaid.
+/// Prints a picture's parts as a flowchart of Mermaid, under a title where that is not empty.
 pub fn print_mermaid(
     alloc: Global,
+    title: &[u8],
     scene: &Scene,
     arrows: &[Arrow],
     labels: &Labels,
     marks: &[Mark],
     rules: &[Name],
 ) -> Result<Vec<u8>, AllocError>
-    ensures { IfOk result (λ text. text.items ≡ chart_text Mermaid (sketch_of scene.now) arrows.now labels.now marks.now rules.now) }
+    ensures { IfOk result (λ text. text.items ≡ chart_text Mermaid title.now (sketch_of scene.now) arrows.now labels.now marks.now rules.now) }
 {
-    print_chart(alloc, Format::Mermaid, scene, arrows, labels, marks, rules)
+    print_chart(
+        alloc,
+        Format::Mermaid,
+        title,
+        scene,
+        arrows,
+        labels,
+        marks,
+        rules,
+    )
 }
 
-/// Prints a picture's parts as a graph of Graphviz.
+/// Prints a picture's parts as a graph of Graphviz, under a title where that is not empty.
 pub fn print_dot(
     alloc: Global,
+    title: &[u8],
     scene: &Scene,
     arrows: &[Arrow],
     labels: &Labels,
     marks: &[Mark],
     rules: &[Name],
 ) -> Result<Vec<u8>, AllocError>
-    ensures { IfOk result (λ text. text.items ≡ chart_text Dot (sketch_of scene.now) arrows.now labels.now marks.now rules.now) }
+    ensures { IfOk result (λ text. text.items ≡ chart_text Dot title.now (sketch_of scene.now) arrows.now labels.now marks.now rules.now) }
 {
-    print_chart(alloc, Format::Dot, scene, arrows, labels, marks, rules)
+    print_chart(
+        alloc,
+        Format::Dot,
+        title,
+        scene,
+        arrows,
+        labels,
+        marks,
+        rules,
+    )
 }
 
 fn print_chart(
     alloc: Global,
     format: Format,
+    title: &[u8],
     scene: &Scene,
     arrows: &[Arrow],
     labels: &Labels,
     marks: &[Mark],
     rules: &[Name],
 ) -> Result<Vec<u8>, AllocError>
-    ensures { IfOk result (λ text. text.items ≡ chart_text format (sketch_of scene.now) arrows.now labels.now marks.now rules.now) }
+    ensures { IfOk result (λ text. text.items ≡ chart_text format title.now (sketch_of scene.now) arrows.now labels.now marks.now rules.now) }
 {
-    let mut text = Vec::from_slice(alloc, head_words(format))?;
+    let mut text = Vec::new(alloc);
+    push_head(&mut text, format, title)?;
     let _ends = push_scene(&mut text, format, labels, marks, None, 0, scene)?;
     push_orders(&mut text, format, arrows)?;
+    text.extend_from_slice(title_foot(format, title))?;
     push_notes(&mut text, format, rules)?;
     text.extend_from_slice(foot_words(format))?;
     Ok(text)

@@ -3,6 +3,7 @@
 
 mod chart;
 mod lines;
+mod title;
 mod words;
 
 pub use chart::{print_dot, print_mermaid};

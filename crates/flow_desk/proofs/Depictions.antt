@@ -9,7 +9,7 @@ use Rattle.flow_view.specs.declared.refusal.ViewRefusal.TheVariants as view
 use Rattle.flow_view.specs.Drawn.{drawing}
 use Rattle.flow_view.specs.Sizes.{IsRefusal}
 use Rattle.flow_view.specs.Sketch.{Sketch}
-use Rattle.flow_draw.specs.declared.format.Format.{Format}
+use Rattle.flow_draw.specs.declared.sheet.Sheet.{Sheet}
 use Rattle.flow_draw.specs.Notes.{note_of}
 use Rattle.flow_desk.specs.Viewing.{view_stop}
 use Rattle.flow_desk.specs.declared.stop.DeskStop.{DeskStop}
@@ -34,11 +34,11 @@ module _ (s : Said) (w : Definition) (texts : List (List ℕ)) (labels : Labels)
   not_depicted TooLarge large = (labels, are, large)
   not_depicted NoMemory starved = tt
 
-  pub depicted : (form : Format) (marks : List Mark) (text : List ℕ) (sketch : Sketch) (notes : List (List ℕ)) → sketch ≡ drawing s labels w.tree.process →
-      notes ≡ map note_of s.rules → IsPrinted form sketch labels w marks notes text → IsDepicted form s w texts marks text
-  depicted form marks text sketch notes drawn noted printed = record {
+  pub depicted : (sheet : Sheet) (marks : List Mark) (text : List ℕ) (sketch : Sketch) (notes : List (List ℕ)) → sketch ≡ drawing s labels w.tree.process →
+      notes ≡ map note_of s.rules → IsPrinted sheet sketch labels w marks notes text → IsDepicted sheet s w texts marks text
+  depicted sheet marks text sketch notes drawn noted printed = record {
     labels = labels;
     labels_are = are;
-    printed = subst (λ (k : Sketch). IsPrinted form k labels w marks (map note_of s.rules) text) drawn
-        (subst (λ (n : List (List ℕ)). IsPrinted form sketch labels w marks n text) noted printed);
+    printed = subst (λ (k : Sketch). IsPrinted sheet k labels w marks (map note_of s.rules) text) drawn
+        (subst (λ (n : List (List ℕ)). IsPrinted sheet sketch labels w marks n text) noted printed);
   }

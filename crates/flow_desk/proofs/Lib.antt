@@ -1,6 +1,5 @@
 pub mod Columns
-pub mod Copied
-pub mod Counting
+pub mod Noting
 pub mod Shown
 pub mod Lines
 pub mod Depictions

@@ -20,16 +20,17 @@ use Rattle.flow_view.specs.Sizes.{canvas_width, canvas_height, IsTooLarge}
 use Rattle.flow_view.specs.Sketch.{Sketch}
 use Rattle.flow_view.specs.Texts.{box_texts, captions}
 use Rattle.flow_draw.specs.declared.format.Format.{Format}
+use Rattle.flow_draw.specs.declared.sheet.Sheet.{Sheet}
 use Rattle.flow_draw.specs.declared.format.Format.TheVariants.{Svg, Mermaid, Dot}
 use Rattle.flow_draw.specs.Notes.{note_of}
-use Rattle.flow_svg.specs.Svg.{svg_text}
+use Rattle.flow_svg.specs.Svg.{IsSvg}
 use Rattle.flow_chart.specs.Chart.{chart_text}
 use Rattle.std.specs.Prelude.{nat_lt, take}
 use Rattle.flow_desk.specs.declared.run_file.TheConstants.{GREATEST_RUN}
 use Rattle.flow_desk.specs.declared.stop.DeskStop.{DeskStop}
 use Rattle.flow_desk.specs.declared.stop.DeskStop.TheVariants.{RunTooLong, Line, Label, Illegal, TooLarge, NoMemory}
 use Rattle.flow_desk.specs.declared.report.Untold.TheVariants as untold
-use Rattle.flow_desk.specs.Counted.{counted_texts}
+use Rattle.flow_desk.specs.Noted.{noted_texts}
 use Rattle.flow_desk.specs.Replay.{steps_for, IsFirstIllegal, IsReplayed}
 use Rattle.flow_desk.specs.Stopped.{IsStoppedFor}
 use Rattle.flow_desk.specs.Told.{Tells}
@@ -48,21 +49,22 @@ pub record AreLabels (s : Said) (texts : List (List ℕ)) (labels : Labels) : Ty
   pub boxes : labels.boxes.items ≡ texts
   pub captions_are : labels.captions.items ≡ captions s.decls
 
--- a picture's text in the form that is asked for
-abbrev pub text_in : Format → Sketch → Picture → Labels → List Mark → List (List ℕ) → List ℕ
-text_in Svg sketch picture labels marks notes = svg_text picture labels marks notes
-text_in Mermaid sketch picture labels marks notes = chart_text Mermaid sketch picture.arrows.items labels marks notes
-text_in Dot sketch picture labels marks notes = chart_text Dot sketch picture.arrows.items labels marks notes
+-- the text is that of a picture in the form, under the title, and in rows that may be so wide
+abbrev pub IsTextIn : Format → List ℕ → Option ℕ → Sketch → Picture → Labels → List Mark → List (List ℕ) → List ℕ → Type 0
+IsTextIn Svg title fold sketch picture labels marks rules text = IsSvg picture labels marks rules title fold text
+IsTextIn Mermaid title fold sketch picture labels marks rules text = text ≡ chart_text Mermaid title sketch picture.arrows.items labels marks rules
+IsTextIn Dot title fold sketch picture labels marks rules text = text ≡ chart_text Dot title sketch picture.arrows.items labels marks rules
 
 -- the text is that of a picture that consists of these parts
-abbrev pub IsPrinted : Format → Sketch → Labels → Definition → List Mark → List (List ℕ) → List ℕ → Type 0
-IsPrinted form sketch labels w marks notes text = (picture : Picture) × IsPicture w sketch picture × (text ≡ text_in form sketch picture labels marks notes)
+abbrev pub IsPrinted : Sheet → Sketch → Labels → Definition → List Mark → List (List ℕ) → List ℕ → Type 0
+IsPrinted sheet sketch labels w marks rules text =
+    (picture : Picture) × IsPicture w sketch picture × IsTextIn sheet.form sheet.title sheet.fold sketch picture labels marks rules text
 
 -- The text is that of the picture of the workflow, with these texts in its boxes and with these marks, and with the constraints as the script has them.
-pub record IsDepicted (form : Format) (s : Said) (w : Definition) (texts : List (List ℕ)) (marks : List Mark) (text : List ℕ) : Type 0 where
+pub record IsDepicted (sheet : Sheet) (s : Said) (w : Definition) (texts : List (List ℕ)) (marks : List Mark) (text : List ℕ) : Type 0 where
   pub labels : Labels
   pub labels_are : AreLabels s texts labels
-  pub printed : IsPrinted form (drawing s labels w.tree.process) labels w marks (map note_of s.rules) text
+  pub printed : IsPrinted sheet (drawing s labels w.tree.process) labels w marks (map note_of s.rules) text
 
 -- why a workflow that shows these labels has no picture: it would be too large
 abbrev pub IsNotPlaced : Said → Labels → Definition → DeskStop → Type 0
@@ -106,42 +108,26 @@ abbrev pub AreMarksFor : Definition → Option (List ℕ) → List Mark → Type
 AreMarksFor w None marks = marks ≡ []
 AreMarksFor w (Some text) marks = (run : Run) × HasReplay w text run marks
 
--- what is drawn of what is said: the picture of its workflow, with these marks
-abbrev pub IsDrawnOf : Format → Said → Option (List ℕ) → List ℕ → Type 0
-IsDrawnOf form s file text = (w : Definition) × IsExpanded s w × ((marks : List Mark) × AreMarksFor w file marks × IsDepicted form s w (box_texts w) marks text)
+-- what is drawn of what is said: the picture of its workflow, with these marks, and with the notes behind the texts of boxes
+abbrev pub IsDrawnOf : Sheet → Said → Option (List ℕ) → List (List ℕ) → List ℕ → Type 0
+IsDrawnOf sheet s file notes text =
+    (w : Definition) × IsExpanded s w × ((marks : List Mark) × AreMarksFor w file marks × IsDepicted sheet s w (noted_texts notes (box_texts w)) marks text)
 
 -- the workflow that is said and compiled: the file of its run tells none, or its picture is too large
-abbrev pub IsRunNotDrawn : Said → List ℕ → DeskStop → Type 0
-IsRunNotDrawn s text stop = (w : Definition) × IsExpanded s w × (IsNoRun w text stop ⊎ IsNotDepicted s w (box_texts w) stop)
+abbrev pub IsRunNotDrawn : Said → List ℕ → List (List ℕ) → DeskStop → Type 0
+IsRunNotDrawn s text notes stop = (w : Definition) × IsExpanded s w × (IsNoRun w text stop ⊎ IsNotDepicted s w (noted_texts notes (box_texts w)) stop)
 
 -- why nothing is drawn of what is said: it is refused by flow, or the file of the run is, or the picture is too large
-abbrev pub IsNotDrawnOf : Said → Option (List ℕ) → DeskStop → Type 0
-IsNotDrawnOf s None stop = IsStoppedFor (event_names s.decls) (IsCause (the_script s)) stop ⊎ ((w : Definition) × IsExpanded s w × IsNotDepicted s w (box_texts w) stop)
-IsNotDrawnOf s (Some text) stop = IsStoppedFor (event_names s.decls) (IsNotPrepared s) stop ⊎ IsRunNotDrawn s text stop
+abbrev pub IsNotDrawnOf : Said → Option (List ℕ) → List (List ℕ) → DeskStop → Type 0
+IsNotDrawnOf s None notes stop =
+    IsStoppedFor (event_names s.decls) (IsCause (the_script s)) stop ⊎ ((w : Definition) × IsExpanded s w × IsNotDepicted s w (noted_texts notes (box_texts w)) stop)
+IsNotDrawnOf s (Some text) notes stop = IsStoppedFor (event_names s.decls) (IsNotPrepared s) stop ⊎ IsRunNotDrawn s text notes stop
 
 -- what the desk writes
-abbrev pub IsDrawn : List ℕ → Option (List ℕ) → Format → List ℕ → Type 0
-IsDrawn text file form drawn = (s : Said) × Says (workflow_part text) s × IsDrawnOf form s file drawn
+abbrev pub IsDrawn : List ℕ → Option (List ℕ) → List (List ℕ) → Sheet → List ℕ → Type 0
+IsDrawn text file notes sheet drawn = (s : Said) × Says (workflow_part text) s × IsDrawnOf sheet s file notes drawn
 
 -- why it writes nothing: the text is refused, or what it says is
-abbrev pub IsNotDrawn : List ℕ → Option (List ℕ) → DeskStop → Type 0
-IsNotDrawn text file stop =
-    IsStoppedFor [] (IsCause (the_source (Some text))) stop ⊎ ((s : Said) × Says (workflow_part text) s × IsNotDrawnOf s file stop)
-
--- the picture of the workflow that is said: each box has the count of its leaf, if there is one
-abbrev pub IsCountDrawnOf : Format → Said → List ℕ → List ℕ → Type 0
-IsCountDrawnOf form s counts text = (w : Definition) × IsExpanded s w × IsDepicted form s w (counted_texts counts (box_texts w)) [] text
-
--- why it is not drawn: it is refused by flow, or the picture is too large
-abbrev pub IsCountNotDrawnOf : Said → List ℕ → DeskStop → Type 0
-IsCountNotDrawnOf s counts stop =
-    IsStoppedFor (event_names s.decls) (IsCause (the_script s)) stop ⊎ ((w : Definition) × IsExpanded s w × IsNotDepicted s w (counted_texts counts (box_texts w)) stop)
-
--- what the desk writes of a text and of counts
-abbrev pub IsCountDrawn : List ℕ → List ℕ → Format → List ℕ → Type 0
-IsCountDrawn text counts form drawn = (s : Said) × Says (workflow_part text) s × IsCountDrawnOf form s counts drawn
-
--- why it writes nothing
-abbrev pub IsCountNotDrawn : List ℕ → List ℕ → DeskStop → Type 0
-IsCountNotDrawn text counts stop =
-    IsStoppedFor [] (IsCause (the_source (Some text))) stop ⊎ ((s : Said) × Says (workflow_part text) s × IsCountNotDrawnOf s counts stop)
+abbrev pub IsNotDrawn : List ℕ → Option (List ℕ) → List (List ℕ) → DeskStop → Type 0
+IsNotDrawn text file notes stop =
+    IsStoppedFor [] (IsCause (the_source (Some text))) stop ⊎ ((s : Said) × Says (workflow_part text) s × IsNotDrawnOf s file notes stop)

@@ -1,4 +1,4 @@
-pub mod Counted
+pub mod Noted
 pub mod Place
 pub mod Report
 pub mod Mark

@@ -6,14 +6,14 @@ ghost use Rattle.flow_view.specs.Sizes.{IsMeasured};
 ghost use Rattle.flow_view.specs.Sketch.{process_in, sketch_of};
 ghost use Rattle.flow_view.specs.Texts.{box_texts};
 ghost use Rattle.flow_draw.specs.Notes.{note_of};
-ghost use Rattle.flow_desk.specs.Counted.{counted_texts};
+ghost use Rattle.flow_desk.specs.Noted.{noted_texts};
 ghost use Rattle.flow_desk.specs.Viewing.{view_stop};
-ghost use Rattle.flow_desk.specs.Desk.{AreLabels, IsPrinted, IsDepicted, IsNotDepicted, IsNotPlaced, text_in};
+ghost use Rattle.flow_desk.specs.Desk.{AreLabels, IsPrinted, IsDepicted, IsNotDepicted, IsNotPlaced, IsTextIn};
 
-use crate::counted::counted_boxes;
+use crate::noted::noted_boxes;
 use crate::stop::DeskStop;
 use flow_chart::{print_dot, print_mermaid};
-use flow_draw::{Format, notes_of};
+use flow_draw::{Format, Sheet, notes_of};
 use flow_facts::Name;
 use flow_form::{RuleForm, Script};
 use flow_svg::print_svg;
@@ -60,21 +60,21 @@ fn placed(
     }
 }
 
-/// What is shown of a workflow, with how many cases passed each leaf where that is counted.
+/// What is shown of a workflow, with the notes behind the texts of boxes.
 fn shown_of(
     alloc: Global,
     script: &Script,
     workflow: &Workflow,
-    counts: &[u64],
+    notes: &[Name],
 ) -> Result<Labels, AllocError>
-    ensures { IfOk result (AreLabels (said script.now) (counted_texts counts.now (box_texts workflow.now))) }
+    ensures { IfOk result (AreLabels (said script.now) (noted_texts notes.now (box_texts workflow.now))) }
 {
     let Labels { boxes, captions } = labels_of(alloc, script, workflow)?;
-    match counted_boxes(alloc, &boxes, counts) {
-        Ok(counted) => {
+    match noted_boxes(alloc, &boxes, notes) {
+        Ok(noted) => {
             drop(boxes);
             Ok(Labels {
-                boxes: counted,
+                boxes: noted,
                 captions,
             })
         }
@@ -91,89 +91,76 @@ fn view_of(
     alloc: Global,
     script: &Script,
     workflow: &Workflow,
-    counts: &[u64],
+    notes: &[Name],
 ) -> Result<View, DeskStop>
-    ensures labels { IfOk result (λ view. AreLabels (said script.now) (counted_texts counts.now (box_texts workflow.now)) view.labels) }
+    ensures labels { IfOk result (λ view. AreLabels (said script.now) (noted_texts notes.now (box_texts workflow.now)) view.labels) }
     ensures sketch { IfOk result (λ view. sketch_of view.scene ≡ drawing (said script.now) view.labels workflow.now.tree.process) }
     ensures goal { IfOk result (λ view. process_in (sketch_of view.scene) ≡ workflow.now.tree.process) }
     ensures measured { IfOk result (λ view. IsMeasured view.scene) }
-    ensures stop { IfErr result (IsNotDepicted (said script.now) workflow.now (counted_texts counts.now (box_texts workflow.now))) }
+    ensures stop { IfErr result (IsNotDepicted (said script.now) workflow.now (noted_texts notes.now (box_texts workflow.now))) }
 {
-    let labels = shown_of(alloc, script, workflow, counts)?;
+    let labels = shown_of(alloc, script, workflow, notes)?;
     placed(alloc, script, workflow, labels)
 }
 
-/// The text of a picture in the form that is asked for.
+/// The text of a picture as the sheet asks for it.
 fn print_in(
     alloc: Global,
-    form: Format,
+    sheet: &Sheet,
     view: &View,
     picture: &Picture,
     marks: &[Mark],
-    notes: &[Name],
+    rules: &[Name],
 ) -> Result<Vec<u8>, AllocError>
-    ensures { IfOk result (λ text. text.items ≡ text_in form (sketch_of view.now.scene) picture.now view.now.labels marks.now notes.now) }
+    ensures { IfOk result (λ text. IsTextIn sheet.now.form sheet.now.title sheet.now.fold (sketch_of view.now.scene) picture.now view.now.labels marks.now rules.now text.items) }
 {
     let View { labels, scene } = view;
     let arrows = &picture.arrows;
-    match form {
-        Format::Svg => print_svg(alloc, picture, labels, marks, notes),
-        Format::Mermaid => print_mermaid(alloc, scene, arrows, labels, marks, notes),
-        Format::Dot => print_dot(alloc, scene, arrows, labels, marks, notes),
+    let title = sheet.title.bytes();
+    match sheet.form {
+        Format::Svg => print_svg(alloc, picture, labels, marks, rules, sheet),
+        Format::Mermaid => print_mermaid(alloc, title, scene, arrows, labels, marks, rules),
+        Format::Dot => print_dot(alloc, title, scene, arrows, labels, marks, rules),
     }
 }
 
 /// The text of the picture of a workflow whose parts are these.
 fn print_view(
     alloc: Global,
-    form: Format,
+    sheet: &Sheet,
     view: &View,
     workflow: &Workflow,
     marks: &[Mark],
-    notes: &[Name],
+    rules: &[Name],
 ) -> Result<Vec<u8>, AllocError>
     requires goal { process_in (sketch_of view.now.scene) ≡ workflow.now.tree.process }
     requires measured { IsMeasured view.now.scene }
-    ensures { IfOk result (λ text. IsPrinted form (sketch_of view.now.scene) view.now.labels workflow.now marks.now notes.now text.items) }
+    ensures { IfOk result (λ text. IsPrinted sheet.now (sketch_of view.now.scene) view.now.labels workflow.now marks.now rules.now text.items) }
 {
     let picture = picture_of(alloc, &view.scene, workflow)?;
-    let text = print_in(alloc, form, view, &picture, marks, notes);
+    let text = print_in(alloc, sheet, view, &picture, marks, rules);
     drop(picture);
     text
 }
 
-/// The text of the picture of a workflow that a script says, with a run's marks.
+/// The text of the picture of a workflow that a script says, with a run's marks, and with the notes behind the texts of boxes.
 pub(crate) fn depict(
     alloc: Global,
     script: Script,
     workflow: &Workflow,
+    notes: &[Name],
     marks: &[Mark],
-    form: Format,
+    sheet: &Sheet,
 ) -> Result<Vec<u8>, DeskStop>
-    ensures text { IfOk result (λ text. IsDepicted form (said script) workflow.now (box_texts workflow.now) marks.now text.items) }
-    ensures stop { IfErr result (IsNotDepicted (said script) workflow.now (box_texts workflow.now)) }
+    ensures text { IfOk result (λ text. IsDepicted sheet.now (said script) workflow.now (noted_texts notes.now (box_texts workflow.now)) marks.now text.items) }
+    ensures stop { IfErr result (IsNotDepicted (said script) workflow.now (noted_texts notes.now (box_texts workflow.now))) }
 {
-    depict_with_counts(alloc, script, workflow, &[], marks, form)
-}
-
-/// The same, with how many cases passed each leaf that has a count.
-pub(crate) fn depict_with_counts(
-    alloc: Global,
-    script: Script,
-    workflow: &Workflow,
-    counts: &[u64],
-    marks: &[Mark],
-    form: Format,
-) -> Result<Vec<u8>, DeskStop>
-    ensures text { IfOk result (λ text. IsDepicted form (said script) workflow.now (counted_texts counts.now (box_texts workflow.now)) marks.now text.items) }
-    ensures stop { IfErr result (IsNotDepicted (said script) workflow.now (counted_texts counts.now (box_texts workflow.now))) }
-{
-    match view_of(alloc, &script, workflow, counts) {
+    match view_of(alloc, &script, workflow, notes) {
         Ok(view) => {
             let Script { decls, goal, rules } = script;
             drop(decls);
             drop(goal);
-            Ok(print_all(alloc, form, &view, workflow, marks, rules)?)
+            Ok(print_all(alloc, sheet, &view, workflow, marks, rules)?)
         }
         Err(stop) => {
             drop(script);
@@ -185,7 +172,7 @@ pub(crate) fn depict_with_counts(
 /// The text of a picture with its constraints.
 fn print_all(
     alloc: Global,
-    form: Format,
+    sheet: &Sheet,
     view: &View,
     workflow: &Workflow,
     marks: &[Mark],
@@ -193,10 +180,10 @@ fn print_all(
 ) -> Result<Vec<u8>, AllocError>
     requires goal { process_in (sketch_of view.now.scene) ≡ workflow.now.tree.process }
     requires measured { IsMeasured view.now.scene }
-    ensures { IfOk result (λ text. IsPrinted form (sketch_of view.now.scene) view.now.labels workflow.now marks.now (map (λ rule. note_of (rule_shape_of rule)) rules.items) text.items) }
+    ensures { IfOk result (λ text. IsPrinted sheet.now (sketch_of view.now.scene) view.now.labels workflow.now marks.now (map (λ rule. note_of (rule_shape_of rule)) rules.items) text.items) }
 {
-    let notes = notes_of(alloc, rules)?;
-    let text = print_view(alloc, form, view, workflow, marks, &notes);
-    drop(notes);
+    let texts = notes_of(alloc, rules)?;
+    let text = print_view(alloc, sheet, view, workflow, marks, &texts);
+    drop(texts);
     text
 }

@@ -1,5 +1,5 @@
 -- Bytes of a label as they stand in a text of each form.
-use Rattle.std.specs.Prelude.{ℕ, ◌==◌, if◌then◌else◌, List, [], ◌∷◌, codes}
+use Rattle.std.specs.Prelude.{ℕ, ◌==◌, nat_lt, if◌then◌else◌, List, [], ◌∷◌, codes}
 use Rattle.std.specs.List.{flat_map}
 use Rattle.flow_draw.specs.declared.format.Format.{Format}
 use Rattle.flow_draw.specs.declared.format.Format.TheVariants.{Svg, Mermaid, Dot}
@@ -29,3 +29,11 @@ escaped_byte Dot byte = in_dot byte
 -- byte by byte
 abbrev pub escaped : Format → List ℕ → List ℕ
 escaped format bytes = flat_map (escaped_byte format) bytes
+
+-- in the double quotes of a line of YAML: `"` and `\` stand behind a `\`, and what ends a line or is no letter is a blank
+abbrev pub quoted_byte : ℕ → List ℕ
+quoted_byte byte =
+    if byte == 34 then 92 ∷ 34 ∷ [] else if byte == 92 then 92 ∷ 92 ∷ [] else if nat_lt byte 32 then 32 ∷ [] else byte ∷ []
+
+abbrev pub quoted : List ℕ → List ℕ
+quoted bytes = flat_map quoted_byte bytes

@@ -1,8 +1,8 @@
 -- A label stays where it is written.
-use Rattle.std.specs.Prelude.{◌≡◌, ℕ, ◌==◌, ◌&&◌, Bool, true, false, not, if◌then◌else◌, List, [], ◌∷◌}
+use Rattle.std.specs.Prelude.{◌≡◌, ℕ, ◌==◌, nat_lt, ◌&&◌, Bool, true, false, not, if◌then◌else◌, List, [], ◌∷◌}
 use Rattle.std.specs.List.{list_all}
 use Rattle.flow_draw.specs.declared.format.Format.TheVariants.{Svg, Mermaid, Dot}
-use Rattle.flow_draw.specs.Escape.{escaped}
+use Rattle.flow_draw.specs.Escape.{escaped, quoted}
 
 -- the byte is no `<`, no `>` and no `"`
 abbrev pub is_tame : ℕ → Bool
@@ -23,3 +23,10 @@ stays_quoted false (byte ∷ bytes) = if byte == 92 then stays_quoted true bytes
 
 abbrev pub DotStaysInside : Type 0
 DotStaysInside = (bytes : List ℕ) → stays_quoted false (escaped Dot bytes) ≡ true
+
+abbrev pub QuotedStaysInside : Type 0
+QuotedStaysInside = (bytes : List ℕ) → stays_quoted false (quoted bytes) ≡ true
+
+-- no byte ends a line
+abbrev pub QuotedIsOneLine : Type 0
+QuotedIsOneLine = (bytes : List ℕ) → list_all (nat_lt 31) (quoted bytes) ≡ true

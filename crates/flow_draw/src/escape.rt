@@ -1,5 +1,5 @@
 ghost use Rattle.std.specs.Prelude.{◌≡◌, ◌++◌, OnOk};
-ghost use Rattle.flow_draw.specs.Escape.{in_svg, in_mermaid, in_dot, escaped_byte, escaped};
+ghost use Rattle.flow_draw.specs.Escape.{in_svg, in_mermaid, in_dot, escaped_byte, escaped, quoted_byte, quoted};
 
 use crate::format::Format;
 use std::alloc::AllocError;
@@ -56,6 +56,27 @@ fn push_in_dot(text: &mut Vec<u8>, byte: u8) -> Result<(), AllocError>
         b'"' => text.extend_from_slice(b"\\\""),
         b'\\' => text.extend_from_slice(b"\\\\"),
         b'&' => text.extend_from_slice(b"&amp;"),
+        _ => text.extend_from_slice(&[byte]),
+    }
+}
+
+/// Adds bytes to a line of YAML, in whose double quotes they are read as they are. What ends a line, or is no letter, is a blank there.
+pub fn push_quoted(text: &mut Vec<u8>, bytes: &[u8]) -> Result<(), AllocError>
+    ensures { OnOk result (text.new.items ≡ text.old.items ++ quoted bytes.now) }
+{
+    for byte in bytes {
+        push_quoted_byte(text, *byte)?;
+    }
+    Ok(())
+}
+
+fn push_quoted_byte(text: &mut Vec<u8>, byte: u8) -> Result<(), AllocError>
+    ensures { OnOk result (text.new.items ≡ text.old.items ++ quoted_byte byte) }
+{
+    match byte {
+        b'"' => text.extend_from_slice(b"\\\""),
+        b'\\' => text.extend_from_slice(b"\\\\"),
+        0..32 => text.extend_from_slice(b" "),
         _ => text.extend_from_slice(&[byte]),
     }
 }

@@ -1,6 +1,7 @@
 -- Where the arrows of constraints go.
 use Rattle.std.specs.Prelude.{ℕ, zero, suc, ◌+◌, ◌-◌, ◌*◌, ◌%◌, ◌==◌, ◌&&◌, ◌||◌, min, max, nat_lt, Bool, true, false, if◌then◌else◌, List, [], ◌∷◌, ◌++◌, length, Option, Some, None, slice_get}
 use Rattle.flow_view.specs.declared.arrow.Arrow.{Arrow}
+use Rattle.flow_view.specs.declared.picture.Picture.{Picture}
 use Rattle.flow_view.specs.declared.shape.Place.{Place}
 use Rattle.flow_view.specs.declared.shape.Shape.{Shape}
 use Rattle.flow_view.specs.declared.shape.Shape.TheVariants as shape
@@ -96,3 +97,11 @@ courses_after shapes top cs (arrow ∷ arrows) = courses_after shapes top (with_
 -- in lanes below that height
 abbrev pub courses_of : List Shape → ℕ → List Arrow → List Course
 courses_of shapes top arrows = courses_after shapes top [] arrows
+
+-- the height below which the lanes of a picture are
+abbrev pub lanes_top : Picture → ℕ
+lanes_top p = p.height - 24
+
+-- the arrows of a picture
+abbrev pub courses_in : Picture → List Course
+courses_in p = courses_of p.shapes.items (lanes_top p) p.arrows.items

@@ -1,9 +1,11 @@
 pub mod Courses
+pub mod Cuts
 pub mod Element
 pub mod Lanes
 pub mod Lines
 pub mod Notes
 pub mod Orders
 pub mod Page
+pub mod Rows
 pub mod Shapes
 pub mod Svg

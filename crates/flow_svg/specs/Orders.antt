@@ -34,9 +34,13 @@ abbrev pub course_line : Course → List ℕ
 course_line c =
     (if nat_lt 15 (c.end - c.start) then to_right c else if nat_lt 15 (c.start - c.end) then to_left c else straight c) ++ title_text c.arrow
 
--- the number of the constraint, in the middle of the 36 pixels behind the first turn
+-- the middle of the 36 pixels behind the first turn
+abbrev pub number_place : Course → ℕ
+number_place c = if nat_lt c.start c.end then c.start + 18 else c.start - 18
+
+-- the number of the constraint stands there
 abbrev pub number_line : Course → List ℕ
-number_line c = number_text (if nat_lt c.start c.end then c.start + 18 else c.start - 18) c.lane 4 c.arrow.rule
+number_line c = number_text (number_place c) c.lane 4 c.arrow.rule
 
 abbrev pub course_lines : List Course → List ℕ
 course_lines cs = flat_map course_line cs

@@ -3,11 +3,13 @@
 
 mod apart;
 mod courses;
+mod cuts;
 mod element;
 mod lines;
 mod notes;
 mod orders;
 mod page;
+mod rows;
 mod shapes;
 mod style;
 mod svg;

@@ -1,5 +1,5 @@
-ghost use Rattle.std.specs.Prelude.{◌≡◌, ◌+◌, ◌-◌, ◌++◌, OnOk};
-ghost use Rattle.flow_svg.specs.Orders.{title_text, path_text, to_right, to_left, straight, course_line, number_line, orders_text, course_lines, number_lines};
+ghost use Rattle.std.specs.Prelude.{◌≡◌, ◌+◌, ◌-◌, ◌++◌, IfOk, OnOk};
+ghost use Rattle.flow_svg.specs.Orders.{title_text, path_text, to_right, to_left, straight, course_line, number_place, number_line, orders_text, course_lines, number_lines};
 
 use crate::courses::Course;
 use crate::notes::push_number;
@@ -33,16 +33,23 @@ fn push_numbers(text: &mut Vec<u8>, courses: &[Course]) -> Result<(), AllocError
     Ok(())
 }
 
-/// Adds the number of an arrow's constraint, behind the first turn of the arrow.
+/// How far to the right the number of an arrow's constraint stands: behind the first turn of the arrow.
+pub(crate) fn number_place(course: &Course) -> Result<u64, AllocError>
+    ensures { IfOk result (λ place. place ≡ number_place course.now) }
+{
+    if course.start < course.end {
+        below(course.start, 18)
+    } else {
+        Ok(course.start.saturating_sub(18))
+    }
+}
+
+/// Adds the number of an arrow's constraint.
 fn push_course_number(text: &mut Vec<u8>, course: &Course) -> Result<(), AllocError>
     ensures { OnOk result (text.new.items ≡ text.old.items ++ number_line course.now) }
 {
-    let x = if course.start < course.end {
-        below(course.start, 18)?
-    } else {
-        course.start.saturating_sub(18)
-    };
-    push_number(text, x, course.lane, 4, course.arrow.rule as u64)
+    let place = number_place(course)?;
+    push_number(text, place, course.lane, 4, course.arrow.rule as u64)
 }
 
 /// Adds an arrow. Where its ends are so near that its turns would not find room, these are not round.

@@ -25,6 +25,7 @@ text{font:14px ui-monospace,SFMono-Regular,Menlo,Consolas,'DejaVu Sans Mono',mon
 #head path,#tail circle{fill:#8250df}
 .number{font-size:12px;font-weight:bold;fill:#8250df;stroke:#fff;stroke-width:6px;paint-order:stroke}
 .note{font-size:13px}
+.title .note{font-size:15px;font-weight:bold}
 @media(prefers-color-scheme:dark){
 text{fill:#e6edf3}
 .page{fill:#0d1117}

@@ -7,5 +7,5 @@ use Rattle.flow_desk.proofs.depict.print_all.Goals as goal
 pub returns : goal.returns
 returns c =
     subst (λ (notes : List (List ℕ)). IfOk c.print_view-text.result (λ text.
-    IsPrinted c.args.form (sketch_of c.args.view.now.scene) c.args.view.now.labels c.args.workflow.now c.args.marks.now notes text.items))
-    (c.deref.ensures.value ∙ c.in_ok-notes.ensures) c.print_view-text.ensures
+    IsPrinted c.args.sheet.now (sketch_of c.args.view.now.scene) c.args.view.now.labels c.args.workflow.now c.args.marks.now notes text.items))
+    (c.deref.ensures.value ∙ c.in_ok-texts.ensures) c.print_view-text.ensures

@@ -6,6 +6,7 @@ use Rattle.flow_workflow.specs.Definition.{Definition}
 use Rattle.flow_core.specs.Run.{Run}
 use Rattle.flow_view.specs.Texts.{box_texts}
 use Rattle.flow_desk.specs.Desk.{IsNotDepicted}
+use Rattle.flow_desk.specs.Noted.{noted_texts}
 use Rattle.flow_desk.proofs.desk.draw_prepared.Goals as goal
 
 pub returns-in-Ok-clause-stop : goal.returns-in-Ok-clause-stop
@@ -14,4 +15,4 @@ returns-in-Ok-clause-stop c =
     let w = c.args.prepared.workflow in
     let same : c.workflow.result.now ≡ w = c.workflow.ensures ∙ ap (λ (r : Run). r.definition) c.in-Ok.ensures.run.3.run_is in
     IfErr-weaker c.depict-text.result _ _ (λ stop is. (w, c.requires.0, inr is))
-    (subst (λ (d : Definition). IfErr c.depict-text.result (IsNotDepicted s d (box_texts d))) same c.depict-text.ensures.stop)
+    (subst (λ (d : Definition). IfErr c.depict-text.result (IsNotDepicted s d (noted_texts c.args.notes.now (box_texts d)))) same c.depict-text.ensures.stop)

@@ -12,7 +12,7 @@ returns-in-None-clause-drawn c =
     (λ picture is. (
       said c.in-Ok.script,
       c.in-Ok.ensures.says,
-      subst (λ (o : Option (List ℕ)). IsDrawnOf c.args.form (said c.in-Ok.script) o picture.items) (sym same) is,
+      subst (λ (o : Option (List ℕ)). IsDrawnOf c.args.sheet.now (said c.in-Ok.script) o c.args.notes.now picture.items) (sym same) is,
     )) c.draw_workflow.ensures.drawn
 
 pub returns-in-Some-clause-drawn : goal.returns-in-Some-clause-drawn
@@ -22,5 +22,5 @@ returns-in-Some-clause-drawn c =
     (λ picture is. (
       said c.in-Ok.script,
       c.in-Ok.ensures.says,
-      subst (λ (o : Option (List ℕ)). IsDrawnOf c.args.form (said c.in-Ok.script) o picture.items) (sym same) is,
+      subst (λ (o : Option (List ℕ)). IsDrawnOf c.args.sheet.now (said c.in-Ok.script) o c.args.notes.now picture.items) (sym same) is,
     )) c.draw_run.ensures.drawn

@@ -1,4 +1,4 @@
-use Rattle.flow_draw.proofs.InsideLemmas.{svg_inside, mermaid_inside, dot_inside}
+use Rattle.flow_draw.proofs.InsideLemmas.{svg_inside, mermaid_inside, dot_inside, quoted_inside, quoted_one_line}
 use Rattle.flow_draw.proofs.inside.law_labels_stay_inside.Goals as goal
 
 pub returns-clause-svg : goal.returns-clause-svg
@@ -9,3 +9,9 @@ returns-clause-mermaid c = mermaid_inside
 
 pub returns-clause-dot : goal.returns-clause-dot
 returns-clause-dot c = dot_inside
+
+pub returns-clause-quoted : goal.returns-clause-quoted
+returns-clause-quoted c = quoted_inside
+
+pub returns-clause-one_line : goal.returns-clause-one_line
+returns-clause-one_line c = quoted_one_line
