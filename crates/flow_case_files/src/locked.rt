@@ -2,7 +2,8 @@ ghost use Rattle.std.specs.Prelude.{◌≡◌, IfOk, IfSome};
 
 use crate::folder::{ENTRIES, FolderFault, TRAIL, path_in};
 use flow_disk::{Disk, DiskFailed, FileDisk};
-use std::fs::{File, Files, TryLockError};
+use std::fs::{self, File, Files, TryLockError};
+use std::os::unix::fs::MetadataExt;
 use std::time::{Clock, Duration, Instant};
 use std::{io, thread};
 
@@ -19,23 +20,42 @@ pub struct CaseDisks<'a, R: Files<File = File>> {
     pub trail: FileDisk<'a, R>,
 }
 
-/// Whether another process has the file.
+/// Whether another process has the file. One that is not there is of a case that is being moved.
 fn is_held<R: Files<File = File>>(rt: &R, path: &str) -> io::Result<bool> {
-    match File::open(rt, path)?.try_lock() {
+    let file = match File::open(rt, path) {
+        Ok(file) => file,
+        Err(error) if error.kind() == io::ErrorKind::NotFound => return Ok(true),
+        Err(error) => return Err(error),
+    };
+    match file.try_lock() {
         Ok(()) => Ok(false),
         Err(TryLockError::WouldBlock) => Ok(true),
         Err(TryLockError::Error(error)) => Err(error),
     }
 }
 
-/// The file, where no other process has it.
+/// Which file stands at the path: its device and its number. None where there is none.
+fn file_at<R: Files<File = File>>(rt: &R, path: &str) -> Option<(u64, u64)> {
+    match fs::metadata(rt, path) {
+        Ok(found) => Some((found.dev(), found.ino())),
+        Err(_) => None,
+    }
+}
+
+/// The file, where no other process has it. A case that was moved while it was opened has another file there: then it is not open.
 fn open_free<'a, R: Files<File = File>>(rt: &'a R, path: &str) -> Option<FileDisk<'a, R>>
     ensures { IfSome result (λ disk. ⟦<FileDisk<'a, R> as Disk>⟧.faults disk ≡ 0) }
 {
+    let before = file_at(rt, path);
     let mut disk = FileDisk::new(rt);
     match disk.open(path) {
-        Ok(()) => Some(disk),
-        Err(DiskFailed) => None,
+        Ok(()) => {}
+        Err(DiskFailed) => return None,
+    }
+    if file_at(rt, path) == before {
+        Some(disk)
+    } else {
+        None
     }
 }
 

@@ -3,6 +3,7 @@ ghost use Rattle.std.specs.Result.{IsErrOf};
 ghost use Rattle.flow_case_files.specs.declared.folder.FolderFault.TheVariants.{InUse};
 
 use crate::folder::{ENTRIES, FolderFault, POLICY, TIDY, TRAIL, WORKFLOW, path_in};
+use crate::moved::is_cut_off;
 use std::fs::{self, File, Files, OpenFile};
 use std::io::{self, ErrorKind, Write};
 use std::path::Path;
@@ -15,12 +16,12 @@ fn make_file<R: Files<File = File>>(rt: &R, path: &str, bytes: &[u8]) -> io::Res
 }
 
 /// Makes the names in a folder durable.
-fn sync_folder<R: Files<File = File>>(rt: &R, folder: &str) -> io::Result<()> {
+pub(crate) fn sync_folder<R: Files<File = File>>(rt: &R, folder: &str) -> io::Result<()> {
     fs::open(rt, folder)?.sync_all()
 }
 
 /// The folder in which that one stands.
-fn folder_around(path: &str) -> &str {
+pub(crate) fn folder_around(path: &str) -> &str {
     match Path::new(path).parent() {
         Some(folder) if folder.as_str() != "" => folder.as_str(),
         _ => ".",
@@ -28,7 +29,7 @@ fn folder_around(path: &str) -> &str {
 }
 
 /// Makes the files of a case with no entry yet.
-fn make_files<R: Files<File = File> + AllocGlobal>(
+pub(crate) fn make_files<R: Files<File = File> + AllocGlobal>(
     rt: &R,
     folder: &str,
     workflow: &[u8],
@@ -61,7 +62,7 @@ pub fn make_case<R: Files<File = File> + AllocGlobal>(
 ) -> Result<(), FolderFault>
     ensures no_lock { ¬ (IsErrOf result InUse) }
 {
-    if fs::symlink_metadata(rt, folder).is_ok() {
+    if fs::symlink_metadata(rt, folder).is_ok() || is_cut_off(rt, folder)? {
         return Err(FolderFault::Exists);
     }
     let made = format!(in rt.alloc(); "{folder}.new")?;

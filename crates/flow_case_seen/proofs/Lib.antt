@@ -1,0 +1,4 @@
+pub mod AllLines
+pub mod KeptLemmas
+pub mod TellerLemmas
+pub mod TextLemmas

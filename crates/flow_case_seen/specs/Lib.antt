@@ -1,0 +1,5 @@
+pub mod All
+pub mod Kept
+pub mod Seen
+pub mod Tellers
+pub mod Texts
