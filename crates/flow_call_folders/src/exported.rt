@@ -5,16 +5,61 @@ use clap::builder::ValueParser;
 use clap::{ArgMatches, Command};
 use flow_call::{NO_MEMORY, option, required, say_unread, write_out};
 use flow_case_talk::Book;
-use flow_export::{LogRow, Teller, csv_head, csv_lines, json_lines, rows_of};
+use flow_export::{
+    LogRow, SQL_END, SQL_HEAD, Teller, XES_END, XES_HEAD, csv_head, csv_lines, json_lines, rows_of,
+    sql_case, xes_trace,
+};
 use std::alloc::{AllocError, Global};
 use std::fs::File;
 use std::rt::Files;
 
 /// How the log is written.
-#[derive(Clone, Copy, PartialEq, Eq)]
+#[derive(Clone, Copy)]
 enum Form {
     Csv,
     Jsonl,
+    Xes,
+    Sql,
+}
+
+impl Form {
+    fn called(word: &str) -> Form {
+        match word {
+            "jsonl" => Form::Jsonl,
+            "xes" => Form::Xes,
+            "sql" => Form::Sql,
+            _ => Form::Csv,
+        }
+    }
+
+    /// What stands in front of the cases.
+    fn head(self, alloc: Global) -> Result<Vec<u8>, AllocError> {
+        match self {
+            Form::Csv => csv_head(alloc),
+            Form::Jsonl => Ok(Vec::new(alloc)),
+            Form::Xes => Vec::from_slice(alloc, XES_HEAD),
+            Form::Sql => Vec::from_slice(alloc, SQL_HEAD),
+        }
+    }
+
+    /// What stands behind the cases.
+    fn end(self) -> &'static [u8] {
+        match self {
+            Form::Csv | Form::Jsonl => b"",
+            Form::Xes => XES_END,
+            Form::Sql => SQL_END,
+        }
+    }
+
+    /// What is written of a case.
+    fn text(self, alloc: Global, case: &str, rows: &[LogRow]) -> Result<Vec<u8>, AllocError> {
+        match self {
+            Form::Csv => csv_lines(alloc, rows),
+            Form::Jsonl => json_lines(alloc, rows),
+            Form::Xes => xes_trace(alloc, case, rows),
+            Form::Sql => sql_case(alloc, case, rows),
+        }
+    }
 }
 
 /// Which events are written.
@@ -29,6 +74,14 @@ enum Wanted {
 }
 
 impl Wanted {
+    fn called(word: &str) -> Wanted {
+        match word {
+            "journal" => Wanted::Journal,
+            "tasks" => Wanted::Tasks,
+            _ => Wanted::All,
+        }
+    }
+
     fn has(self, row: &LogRow) -> bool {
         match self {
             Wanted::All => true,
@@ -47,7 +100,7 @@ pub fn export_command<'a>(alloc: Global) -> Result<Command<'a>, AllocError> {
         "a folder whose folders are cases, or a case",
     );
     let form = option(alloc, "form", "FORM", "how the log is written")
-        .value_parser(ValueParser::Names(&["csv", "jsonl"]))
+        .value_parser(ValueParser::Names(&["csv", "jsonl", "xes", "sql"]))
         .default_value("csv");
     let rows = option(
         alloc,
@@ -85,8 +138,8 @@ fn tellers_of(alloc: Global, book: &SeenCase) -> Result<Vec<Teller>, AllocError>
     Ok(tellers)
 }
 
-/// The lines of a case.
-fn case_lines(
+/// What is written of a case.
+fn case_text(
     alloc: Global,
     book: &SeenCase,
     case: &str,
@@ -96,13 +149,10 @@ fn case_lines(
     let tellers = tellers_of(alloc, book)?;
     let mut rows = rows_of(alloc, book.core(), case, &tellers)?;
     rows.retain(|row| wanted.has(row));
-    match form {
-        Form::Csv => csv_lines(alloc, &rows),
-        Form::Jsonl => json_lines(alloc, &rows),
-    }
+    form.text(alloc, case, &rows)
 }
 
-/// Writes the lines of a case, and gives the status. A case that is damaged is told.
+/// Writes a case, and gives the status. A case that is damaged is told.
 fn export_case<R: Files<File = File> + AllocGlobal + Print + Eprint>(
     rt: &R,
     case: &str,
@@ -113,15 +163,15 @@ fn export_case<R: Files<File = File> + AllocGlobal + Print + Eprint>(
         Ok(book) => book,
         Err(why) => return say_unseen(rt, case, why),
     };
-    let lines = case_lines(rt.alloc(), &book, case, form, wanted);
+    let text = case_text(rt.alloc(), &book, case, form, wanted);
     drop(book);
-    match lines {
-        Ok(lines) => write_out(rt, &lines),
+    match text {
+        Ok(text) => write_out(rt, &text),
         Err(AllocError) => NO_MEMORY,
     }
 }
 
-/// Writes the lines of the cases, one after another, and gives the status: the first that is not 0.
+/// Writes the cases, one after another, and gives the status: the first that is not 0.
 fn export_cases<R: Files<File = File> + AllocGlobal + Print + Eprint>(
     rt: &R,
     cases: &[String],
@@ -138,14 +188,29 @@ fn export_cases<R: Files<File = File> + AllocGlobal + Print + Eprint>(
     status
 }
 
-/// Writes what stands in front of the lines, and gives the status.
+/// Writes what stands in front of the cases, and gives the status.
 fn write_head(rt: &(impl AllocGlobal + Print + Eprint), form: Form) -> u8 {
-    if form == Form::Jsonl {
-        return 0;
-    }
-    match csv_head(rt.alloc()) {
+    match form.head(rt.alloc()) {
         Ok(head) => write_out(rt, &head),
         Err(AllocError) => NO_MEMORY,
+    }
+}
+
+/// Writes the log of the cases, and gives the status: the first that is not 0.
+fn write_log<R: Files<File = File> + AllocGlobal + Print + Eprint>(
+    rt: &R,
+    cases: &[String],
+    form: Form,
+    wanted: Wanted,
+) -> u8 {
+    match write_head(rt, form) {
+        0 => {}
+        status => return status,
+    }
+    let status = export_cases(rt, cases, form, wanted);
+    match write_out(rt, form.end()) {
+        0 => status,
+        fault => fault,
     }
 }
 
@@ -155,21 +220,10 @@ pub fn export<R: Files<File = File> + AllocGlobal + Clone + Drop + Print + Eprin
     words: &ArgMatches<'_>,
 ) -> u8 {
     let folder = words.get_str("folder").unwrap_or("");
-    let form = match words.get_str("form") {
-        Some("jsonl") => Form::Jsonl,
-        _ => Form::Csv,
-    };
-    let wanted = match words.get_str("rows") {
-        Some("journal") => Wanted::Journal,
-        Some("tasks") => Wanted::Tasks,
-        _ => Wanted::All,
-    };
-    let cases = match cases_in(rt, folder) {
-        Ok(cases) => cases,
-        Err(error) => return say_unread(rt, folder, error),
-    };
-    match write_head(rt, form) {
-        0 => export_cases(rt, &cases, form, wanted),
-        status => status,
+    let form = Form::called(words.get_str("form").unwrap_or(""));
+    let wanted = Wanted::called(words.get_str("rows").unwrap_or(""));
+    match cases_in(rt, folder) {
+        Ok(cases) => write_log(rt, &cases, form, wanted),
+        Err(error) => say_unread(rt, folder, error),
     }
 }

@@ -5,12 +5,14 @@
 mod words;
 
 use clap::ArgMatches;
-use flow_call::{NO_MEMORY, WORDS, format_called, is_folder};
-use flow_call_cases::{ask_case, dialogue, draw_case, is_case_command, make, verify, write_page};
+use flow_call::{NO_MEMORY, WORDS, is_folder};
+use flow_call_cases::{
+    ask_case, case_report, dialogue, draw_case, is_case_command, make, verify, write_page,
+};
 use flow_call_folders::export;
 use flow_call_logs::{draw_log, log_file};
 use flow_call_policies::answer;
-use flow_call_texts::{draw_file, explain_file, lint_file};
+use flow_call_texts::{draw_file, draw_file_with, explain_file, lint_file};
 use std::alloc::AllocError;
 use std::env;
 use std::fs::File;
@@ -33,16 +35,31 @@ fn words_given(rt: &(impl Env + AllocGlobal)) -> Result<Vec<String>, AllocError>
 
 /// Draws what the words ask for, a file, a case or how often cases of a log passed, and gives the status.
 fn draw<
-    R: Files<File = File> + Clock + RandomSource + AllocGlobal + Print + Eprint + Threads + Sync,
+    R: Files<File = File>
+        + Clock
+        + Input
+        + RandomSource
+        + AllocGlobal
+        + Print
+        + Eprint
+        + Threads
+        + Sync,
 >(rt: &R, words: &ArgMatches<'_>) -> u8 {
     if words.get_str("log").is_some() {
         return draw_log(rt, words);
     }
     let file = words.get_str("file").unwrap_or("");
     if is_folder(rt, file) {
-        return draw_case(rt, file, format_called(words.get_str("form")));
+        return draw_case(rt, file, words);
     }
-    draw_file(rt, words)
+    let journal = words.get_str("journal").unwrap_or("");
+    if !is_folder(rt, journal) {
+        return draw_file(rt, words);
+    }
+    match case_report(rt, journal) {
+        Ok(report) => draw_file_with(rt, words, &report),
+        Err(status) => status,
+    }
 }
 
 /// Tells what to look at in a workflow, or in a policy where the words name one or a case, and gives the status.

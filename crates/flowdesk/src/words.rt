@@ -1,5 +1,6 @@
 use clap::Command;
-use flow_call_cases::{page_command, with_cases};
+use flow_call::{option, required};
+use flow_call_cases::with_cases;
 use flow_call_folders::export_command;
 use flow_call_logs::{log_command, with_columns};
 use flow_call_policies::{alone_command, staffed_command};
@@ -12,6 +13,23 @@ fn draw_command<'a>(alloc: Global) -> Result<Command<'a>, AllocError> {
         "Draws a workflow, and where a run of it stands",
     );
     with_columns(alloc, drawing_arguments(alloc, command)?)
+}
+
+/// The words that ask for the page of a case.
+fn page_command<'a>(alloc: Global) -> Result<Command<'a>, AllocError> {
+    let case = required(alloc, "case", "CASE", "the folder of the case");
+    Command::new(alloc, "page")
+        .about(
+            "Writes the page of a case as HTML: what may be begun, what is out, its picture and history",
+        )
+        .arg(case)?
+        .arg(option(alloc, "at", "TIME", "when; without it the system's time"))?
+        .arg(option(
+            alloc,
+            "wait",
+            "SECONDS",
+            "how long to wait for another command on the case; 5 without it",
+        ))
 }
 
 /// The command that reads the words of a call: what is to be done is a word of its own, and more may come.

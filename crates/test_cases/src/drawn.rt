@@ -2,7 +2,8 @@
 
 use crate::rows::Row;
 use anyhow::Result;
-use flow_desk::{DeskStop, Format, Position, Telling, drawn, position_of};
+use flow_desk::{DeskStop, Format, Position, Sheet, Telling, drawn, position_of};
+use flow_facts::Name;
 use std::alloc::Global;
 use std::io::Write;
 
@@ -11,13 +12,28 @@ const REFUSED: u8 = 3;
 /// The status where there was not enough memory.
 const NO_MEMORY: u8 = 6;
 
-/// The form that the last word names.
-fn form_in(words: &[String]) -> Format {
-    match words.last().map(|word| word.as_str()) {
+/// The word behind the one of that name.
+fn word_behind<'a>(words: &'a [String], name: &str) -> Option<&'a str> {
+    let place = words.iter().position(|word| word.as_str() == name)?;
+    words.get(place + 1).map(|word| word.as_str())
+}
+
+/// How the words ask for a picture: its form, its title, and how wide a row is.
+fn sheet_in(alloc: Global, words: &[String]) -> Result<Sheet> {
+    let form = match word_behind(words, "--form") {
         Some("mermaid") => Format::Mermaid,
         Some("dot") => Format::Dot,
         _ => Format::Svg,
-    }
+    };
+    let title = Name::new(
+        alloc,
+        word_behind(words, "--title").unwrap_or("").as_bytes(),
+    )?;
+    let fold = match word_behind(words, "--fold") {
+        Some(width) => width.parse::<u32>().ok(),
+        None => None,
+    };
+    Ok(Sheet { form, title, fold })
 }
 
 /// A refusal of flow's behind the line and the column at which it points.
@@ -46,10 +62,10 @@ fn tell_stop(text: &mut Vec<u8>, input: &[u8], stop: &DeskStop) -> Result<u8> {
 
 /// The status of the call that a row describes, and the picture or why there is none.
 pub(crate) fn drawn_by(alloc: Global, words: &[String], row: &Row<'_>) -> Result<(u8, Vec<u8>)> {
-    let form = form_in(words);
+    let sheet = sheet_in(alloc, words)?;
     let picture = match &row.beside {
-        Some(run) => drawn(alloc, &row.input, Some(run), form),
-        None => drawn(alloc, &row.input, None, form),
+        Some(run) => drawn(alloc, &row.input, Some(run), &[], &sheet),
+        None => drawn(alloc, &row.input, None, &[], &sheet),
     };
     match picture {
         Ok(picture) => Ok((0, picture)),
