@@ -64,10 +64,10 @@ CHANGES = [
         "(`flow_keep/src/body.rt`).",
         "Where a caller asks for it, it needs a command too.",
     ], [Thing("an entry that takes leaves back", r"[Rr]ewound", r"\brewound\b"),
-        Thing("an entry that adds a leaf", r"\bDid\b|record_did|make_did", r"\bdid [0-9L]")]),
+        Thing("an entry that adds a leaf", r"\bDid\b|record_did", r"\bdid [0-9L]")]),
     Change("A command of sessions", [
-        "A command that makes an entry is a call of `flow_core` in a file of its own. One that only looks is a call of "
-        "`flow_core/src/lists.rt` or `flow_core/src/next.rt`.",
+        "A command that makes an entry is a call of `flow_core/src/asks.rt`. One that only looks is a call of "
+        "`flow_core/src/next.rt`.",
         "Its refusals, and their order, stand in the table of answers: `flow_core/specs/Answers.antt`. `flow_core/specs/Ask.antt` "
         "leads each command to that table.",
         "Users of a policy and kept runs answer the same asks: `flow_roles/src/answer.rt`, `flow_keep/src/asked.rt`.",
@@ -123,7 +123,7 @@ CHANGES = [
         "Where its second part is a text of its own, `flow_record` reads it, and `flow_front/specs/Refusal.antt` has its causes.",
         "The text of what it finds is printed in `flow_findings`, or in `flow_reply` where it is of a run.",
         "`flow_cli/specs/Output.antt` says of each mode whether it reads, asks a gate and starts threads. A mode with threads stands in "
-        "`find_by_workers` of `flow_cli/src/call.rt` and not in `find`. Only `flow_crew` and `flow_audit` start threads.",
+        "`find` of `Crew` in `flow_cli/src/call.rt`, any other in the `find` above it. Only `flow_crew` and `flow_audit` start threads.",
         "Rows of a mode stand in a file of their own, which `crates/test_cases/args` names. `bench/hostile.py` calls every mode.",
     ], [Thing("a mode that reads a list of leaves", r"\bTrace\b|\btrace\b|trace_text|IsTraced", r"`?flow trace\b|\|trace\||`trace`",
               only={"flow_words", "flow_cli", "flow_cli_laws", "flow"}),
@@ -131,7 +131,7 @@ CHANGES = [
         Thing("a mode with threads", r"\b[Aa]udit\b|audit_text|Auditors|IsAudited", r"`?flow audit\b|\|audit\||`audit`",
               only={"flow_words", "flow_cli", "flow_cli_laws", "flow_findings", "flow_front", "flow"})]),
     Change("An option of the command line", [
-        "An option of `flow` is a number with bounds: a row of `OPTIONS` in `flow_words/src/command.rt`. An option without a number, or "
+        "An option of `flow` is a number with bounds: an `arg` of the command in `flow_words/src/command.rt`. An option without a number, or "
         "with a word, is a new kind of rule there.",
         "The bounds stand as figures in `crates/flow_words/proofs/request/request_in/Answers.antt`.",
         "Where it turns the form of what is written, the printer of each finding is handed it, and so are `flow_cli/specs/Finding.antt` "
@@ -195,7 +195,7 @@ CHANGES = [
         "A picture is data (`flow_view/src/picture.rt`) with places. A form without places is nodes and edges: `flow_chart`. One with "
         "places is a crate beside `flow_svg`.",
         "Which printer is called is decided in `flow_desk/src/depict.rt`. Its word stands in `flow_call_texts/src/drawn.rt` and is read in "
-        "`flow_call/src/words.rt`.",
+        "`flow_call/src/sheet.rt`.",
         "A mark says where a run stands at a leaf: `flow_desk/specs/Mark.antt` has their order. `bench/pictures.py` tries forms and marks.",
     ], [Thing("a form of picture", r"\b[Mm]ermaid\b|print_mermaid|in_mermaid", r"\b[Mm]ermaid\b"),
         Thing("a mark", r"\bClaimed\b|\bclaimed\b", r"\bclaimed\b", only={"flow_view", "flow_draw", "flow_svg", "flow_chart", "flow_desk"})]),

@@ -81,6 +81,7 @@ _flowdesk() {
         --form)
             local forms="svg mermaid dot"
             [[ ${COMP_WORDS[1]} == log ]] && forms="text csv json"
+            [[ ${COMP_WORDS[1]} == export ]] && forms="csv jsonl xes sql"
             mapfile -t COMPREPLY < <(compgen -W "$forms" -- "$word") && return
             ;;
         --rows) mapfile -t COMPREPLY < <(compgen -W "all journal tasks" -- "$word") && return ;;
@@ -106,7 +107,7 @@ _flowdesk() {
     elif [[ $word == -* && ${COMP_WORDS[1]} == log ]]; then
         mapfile -t COMPREPLY < <(compgen -W "$(_flow_unused --workflow --case --activity --time --map --form --journals --jobs --budget)" -- "$word")
     elif [[ $word == -* ]]; then
-        mapfile -t COMPREPLY < <(compgen -W "$(_flow_unused --journal --log --case --activity --time --map --form)" -- "$word")
+        mapfile -t COMPREPLY < <(compgen -W "$(_flow_unused --journal --log --case --activity --time --map --form --title --fold --who)" -- "$word")
     else
         _flow_files "$word"
     fi
