@@ -20,9 +20,14 @@ pub struct CaseDisks<'a, R: Files<File = File>> {
     pub trail: FileDisk<'a, R>,
 }
 
-/// Whether another process has the file.
+/// Whether another process has the file. One that is not there is of a case that is being moved.
 fn is_held<R: Files<File = File>>(rt: &R, path: &str) -> io::Result<bool> {
-    match File::open(rt, path)?.try_lock() {
+    let file = match File::open(rt, path) {
+        Ok(file) => file,
+        Err(error) if error.kind() == io::ErrorKind::NotFound => return Ok(true),
+        Err(error) => return Err(error),
+    };
+    match file.try_lock() {
         Ok(()) => Ok(false),
         Err(TryLockError::WouldBlock) => Ok(true),
         Err(TryLockError::Error(error)) => Err(error),
