@@ -96,7 +96,7 @@ _flowdesk() {
     elif [[ $word == -* && ${COMP_WORDS[1]} == export ]]; then
         mapfile -t COMPREPLY < <(compgen -W "$(_flow_unused --form --rows --jobs)" -- "$word")
     elif [[ $word == -* && ${COMP_WORDS[1]} == page ]]; then
-        mapfile -t COMPREPLY < <(compgen -W "$(_flow_unused --at --wait)" -- "$word")
+        mapfile -t COMPREPLY < <(compgen -W "$(_flow_unused --at --wait --jobs)" -- "$word")
     elif [[ $word == -* && ${COMP_WORDS[1]} == move ]]; then
         mapfile -t COMPREPLY < <(compgen -W "$(_flow_unused --workflow --policy --as --at --wait --json) --rename" -- "$word")
     elif [[ $word == -* && ${COMP_WORDS[1]} == new ]]; then

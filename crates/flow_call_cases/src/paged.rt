@@ -16,13 +16,16 @@ use std::fs::File;
 use std::rt::Files;
 use std::time::Clock;
 
-/// The words that ask for the page of a case.
+/// The words that ask for the page of a case, or of a folder of cases.
 pub fn page_command<'a>(alloc: Global) -> Result<Command<'a>, AllocError> {
-    let case = required(alloc, "case", "CASE", "the folder of the case");
+    let case = required(
+        alloc,
+        "case",
+        "CASE|FOLDER",
+        "the folder of the case, or a folder whose folders are cases",
+    );
     Command::new(alloc, "page")
-        .about(
-            "Writes the page of a case as HTML: what may be begun, what is out, its picture and history",
-        )
+        .about("Writes the page of a case as HTML, or that of a folder of cases")
         .arg(case)?
         .arg(option(alloc, "at", "TIME", "when; without it the system's time"))?
         .arg(option(
@@ -30,6 +33,12 @@ pub fn page_command<'a>(alloc: Global) -> Result<Command<'a>, AllocError> {
             "wait",
             "SECONDS",
             "how long to wait for another command on the case; 5 without it",
+        ))?
+        .arg(option(
+            alloc,
+            "jobs",
+            "N",
+            "how many threads look at the cases of a folder, 1 to 64; else 4",
         ))
 }
 

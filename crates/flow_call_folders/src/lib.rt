@@ -4,7 +4,9 @@
 mod exported;
 mod library;
 mod listed;
+mod paged;
 mod seen;
 
 pub use exported::{export, export_command};
 pub use listed::{list, list_command};
+pub use paged::{is_office, write_office};

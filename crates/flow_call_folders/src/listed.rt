@@ -97,20 +97,24 @@ fn second_of(line: &CaseLine) -> Option<u64> {
     }
 }
 
-impl<'a, R: Files<File = File> + AllocGlobal + Sync> Office<'a, R> {
-    /// The line of the case.
-    fn told(&self, case: &str, texts: &SharedTexts) -> Result<CaseLine, Unseen> {
-        let CaseFiles { entries, trail } = files_of(self.rt, case)?;
-        match line_of_files(self.rt.alloc(), texts, entries, &trail) {
-            Ok(line) => Ok(line),
-            Err(stop) => Err(why_stopped(self.rt.alloc(), &stop)),
-        }
+/// The line of a case with those texts, as its files are now.
+pub(crate) fn line_now<R: Files<File = File> + AllocGlobal>(
+    rt: &R,
+    texts: &SharedTexts,
+    case: &str,
+) -> Result<CaseLine, Unseen> {
+    let CaseFiles { entries, trail } = files_of(rt, case)?;
+    match line_of_files(rt.alloc(), texts, entries, &trail) {
+        Ok(line) => Ok(line),
+        Err(stop) => Err(why_stopped(rt.alloc(), &stop)),
     }
+}
 
+impl<'a, R: Files<File = File> + AllocGlobal + Sync> Office<'a, R> {
     /// The line of the case at a place as it is shown, or nothing where it is not.
     fn shown(&self, place: usize, case: &str) -> Result<Vec<u8>, Unseen> {
         let texts = self.library.texts_at(self.rt, place, case)?;
-        let line = self.told(case, texts)?;
+        let line = line_now(self.rt, texts, case)?;
         let alloc = self.rt.alloc();
         if !is_shown(self.filter, texts, &line, second_of(&line)) {
             return Ok(Vec::new(alloc));

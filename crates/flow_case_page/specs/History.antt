@@ -11,16 +11,7 @@ use Rattle.flow_core.specs.Run.{Run}
 use Rattle.flow_draw.specs.Pieces.{joined}
 use Rattle.flow_standing.specs.declared.undone.TakenBack.{TakenBack}
 use Rattle.flow_case_talk.specs.declared.book.Told.{Told}
-use Rattle.flow_page.specs.declared.data.Row.{Row}
-
--- a row without where it lies in memory
-pub record Shown : Type 0 where
-  pub head : List ℕ
-  pub cells : List (List ℕ)
-  pub is_taken_back : Bool
-
-abbrev pub shown : Row → Shown
-shown row = record { head = row.head; cells = row.cells.items; is_taken_back = row.is_taken_back }
+use Rattle.flow_page.specs.Shown.{Shown}
 
 -- the leaf of the claim that a step gives, if it gives one
 abbrev pub leaf_given : Step → List ℕ

@@ -1,11 +1,11 @@
 //! The tasks that may be begun: at once, or behind tests and updates that are done before.
 
-use crate::words::{label_of, labels_of, row, tabled};
+use crate::words::{label_of, labels_of};
 use flow_case_talk::Book;
 use flow_core::Core;
 use flow_facts::Name;
 use flow_names::{State, Todo, waits_for_step};
-use flow_page::{Row, Section};
+use flow_page::{Row, Section, row, tabled};
 use flow_reason::leaves_before;
 use flow_staff::may_take;
 use std::alloc::{AllocError, Global};

@@ -1,9 +1,9 @@
 //! The constraints of a workflow.
-use crate::words::{number_text, row, tabled};
+use crate::words::number_text;
 use flow_draw::notes_of;
 use flow_facts::Name;
 use flow_form::Script;
-use flow_page::{Row, Section};
+use flow_page::{Row, Section, row, tabled};
 use flow_record::cut;
 use flow_text::parse;
 use std::alloc::{AllocError, Global};

@@ -3,7 +3,8 @@ ghost use Rattle.std.specs.Prelude.{◌≡◌, ◌<◌, ◌^◌, ◌++◌, List,
 ghost use Rattle.flow_core.specs.Run.{schema};
 ghost use Rattle.flow_standing.specs.declared.undone.TakenBack.{TakenBack as Taken};
 ghost use Rattle.flow_standing.specs.Undone.{AreTakenBack};
-ghost use Rattle.flow_case_page.specs.History.{was_taken_back, step_word, leaf_given, leaves_given, leaf_of, what_text, as_told, told_at, row_told, rows_told, shown};
+ghost use Rattle.flow_case_page.specs.History.{was_taken_back, step_word, leaf_given, leaves_given, leaf_of, what_text, as_told, told_at, row_told, rows_told};
+ghost use Rattle.flow_page.specs.Shown.{shown};
 
 use crate::words::{label_of, number_text, text_of};
 use flow_case_talk::Told;

@@ -1,10 +1,10 @@
 //! The tasks that are out.
 
 use crate::history::told_at;
-use crate::words::{label_of, number_text, row, tabled};
+use crate::words::{label_of, number_text};
 use flow_case_talk::{Book, Told};
 use flow_facts::Name;
-use flow_page::{Row, Section};
+use flow_page::{Row, Section, row, tabled};
 use flow_standing::{Out, claims_out};
 use std::alloc::{AllocError, Global};
 

@@ -6,11 +6,10 @@ use crate::history::history_rows;
 use crate::out::out_section;
 use crate::tasks::tasks_section;
 use crate::undone::undone_section;
-use crate::words::{paragraph, tabled, told};
 use flow_case_talk::{Book, Told};
 use flow_facts::Name;
 use flow_names::{State, todo_of};
-use flow_page::{Page, Part, Section};
+use flow_page::{Page, Part, Section, paragraph, tabled, told};
 use std::alloc::{AllocError, Global};
 
 /// What is shown of a case besides what the case itself tells.

@@ -1,11 +1,11 @@
 //! Each leaf of the workflow, and where the run stands at it: what the picture shows, in words.
 
 use crate::history::told_at;
-use crate::words::{label_of, number_text, row, tabled};
+use crate::words::{label_of, number_text};
 use flow_case_talk::{Book, Told};
 use flow_core::Core;
 use flow_facts::Name;
-use flow_page::{Row, Section};
+use flow_page::{Row, Section, row, tabled};
 use flow_standing::{Doing, Standing, claims_out, doings, standings};
 use std::alloc::{AllocError, Global};
 

@@ -1,10 +1,10 @@
 //! What steps back took, and what of it is undone outside.
 
 use crate::history::told_at;
-use crate::words::{label_of, number_text, row, tabled};
+use crate::words::{label_of, number_text};
 use flow_case_talk::{Book, Told};
 use flow_facts::Name;
-use flow_page::{Row, Section};
+use flow_page::{Row, Section, row, tabled};
 use flow_standing::{TakenBack, taken_back};
 use std::alloc::{AllocError, Global};
 

@@ -6,7 +6,6 @@ ghost use Rattle.flow_draw.specs.Pieces.{pieces_text};
 use flow_core::Core;
 use flow_draw::{Piece, push_pieces};
 use flow_facts::Name;
-use flow_page::{Part, Row, Section, Table};
 use flow_workflow::push_leaf_label;
 use itoa::Buffer;
 use std::alloc::{AllocError, Global};
@@ -46,55 +45,4 @@ pub(crate) fn labels_of(alloc: Global, core: &Core, leaves: &[u32]) -> Result<Na
         push_leaf_label(&mut text, core.workflow(), *leaf)?;
     }
     Name::new(alloc, &text)
-}
-
-/// A paragraph.
-pub(crate) fn paragraph(alloc: Global, words: &[u8]) -> Result<Part, AllocError> {
-    Ok(Part::Text(Name::new(alloc, words)?))
-}
-
-/// A section with a paragraph.
-pub(crate) fn told(alloc: Global, heading: &[u8], words: &[u8]) -> Result<Section, AllocError> {
-    let mut parts = Vec::new(alloc);
-    parts.push(paragraph(alloc, words)?)?;
-    Ok(Section {
-        heading: Name::new(alloc, heading)?,
-        parts,
-    })
-}
-
-/// A section with a table of these columns; with the words in its place, where there is no row.
-pub(crate) fn tabled(
-    alloc: Global,
-    heading: &[u8],
-    heads: &[&str],
-    rows: Vec<Row>,
-    words: &[u8],
-) -> Result<Section, AllocError> {
-    if rows.is_empty() {
-        drop(rows);
-        return told(alloc, heading, words);
-    }
-    let mut columns = Vec::new(alloc);
-    for head in heads {
-        columns.push(Name::new(alloc, head.as_bytes())?)?;
-    }
-    let mut parts = Vec::new(alloc);
-    parts.push(Part::Table(Table {
-        heads: columns,
-        rows,
-    }))?;
-    Ok(Section {
-        heading: Name::new(alloc, heading)?,
-        parts,
-    })
-}
-
-/// A row of nothing that was taken back.
-pub(crate) fn row(head: Name, cells: Vec<Name>) -> Row {
-    Row {
-        head,
-        cells,
-        is_taken_back: false,
-    }
 }

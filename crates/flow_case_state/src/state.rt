@@ -28,8 +28,12 @@ pub enum CaseState {
 }
 
 impl CaseState {
+    ghost use Rattle.flow_case_state.specs.Words.{word_of};
+
     /// Its word in answers that programs read.
-    pub fn word(self) -> &'static str {
+    pub fn word(self) -> &'static str
+        ensures { result.now ≡ word_of self }
+    {
         match self {
             CaseState::Open => "open",
             CaseState::Waiting => "waiting",

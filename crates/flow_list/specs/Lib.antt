@@ -4,3 +4,4 @@ pub mod Line
 pub mod Out
 pub mod Steps
 pub mod Tasks
+pub mod Words

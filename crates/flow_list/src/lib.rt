@@ -20,4 +20,4 @@ pub use out::TaskOut;
 pub use span::{seconds_in, state_called};
 pub use steps::{LeafName, Steps};
 pub use tasks::{Beginning, Tasks};
-pub use words::{damaged_words, line_words};
+pub use words::{damaged_words, line_words, name_of};

@@ -1,9 +1,12 @@
 //! Lines in words.
+ghost use Rattle.std.specs.Prelude.{◌≡◌};
+ghost use Rattle.flow_list.specs.Words.{name_of, user_name};
 
 use crate::line::CaseLine;
 use crate::out::TaskOut;
 use crate::steps::LeafName;
 use crate::tasks::Beginning;
+use flow_case::Users;
 use flow_case_seen::SharedTexts;
 use flow_case_state::CaseState;
 use flow_writer::Writer;
@@ -23,10 +26,19 @@ fn state_words(state: CaseState) -> &'static str {
 }
 
 /// The name of the user with that number.
-pub(crate) fn name_of(texts: &SharedTexts, number: u32) -> &[u8] {
-    let Some(users) = texts.users() else {
-        return b"nobody";
-    };
+pub fn name_of(texts: &SharedTexts, number: u32) -> &[u8]
+    ensures { result.now ≡ name_of texts.now.users number }
+{
+    match texts.users() {
+        Some(users) => user_name(users, number),
+        None => b"nobody",
+    }
+}
+
+#[tactic(auto, using(crate::proofs::NameLemmas::named_so, crate::proofs::NameLemmas::named_none))]
+fn user_name(users: &Users, number: u32) -> &[u8]
+    ensures { result.now ≡ user_name users.now number }
+{
     match users.name_of(number) {
         Some(name) => name.bytes(),
         None => b"nobody",

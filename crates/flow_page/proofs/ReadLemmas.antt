@@ -1,9 +1,8 @@
 -- What is escaped is read as it is.
-use Rattle.std.proofs.Common.{◌≡◌, ℕ, ◌==◌, ◌⊎◌, inl, inr, Bool, true, false, List, [], ◌∷◌, ◌++◌, arith, refl, ◌∙◌, ap, Option, None, Some}
+use Rattle.std.proofs.Common.{◌≡◌, ℕ, ◌==◌, ◌⊎◌, inl, inr, Bool, true, false, List, [], ◌∷◌, ◌++◌, arith, refl, ◌∙◌, ap}
 use Rattle.std.proofs.lemmas.Bool.Decides.{nat_tests}
 use Rattle.flow_draw.specs.declared.format.Format.TheVariants.{Svg}
 use Rattle.flow_draw.specs.Escape.{in_svg, escaped}
-use Rattle.flow_draw.specs.Inside.{is_tame}
 use Rattle.flow_page.specs.Reading.{before, read_text, TextsAreReadBack}
 
 either_way : (b : Bool) → (b ≡ true) ⊎ (b ≡ false)

@@ -1,4 +1,5 @@
 pub mod Page
 pub mod Reading
 pub mod Sections
+pub mod Shown
 pub mod Tables

@@ -1,6 +1,5 @@
 -- A text as a browser reads it in an element, or in quotes.
 use Rattle.std.specs.Prelude.{◌≡◌, ℕ, ◌==◌, nat_eq, if◌then◌else◌, List, [], ◌∷◌, ◌++◌, Option, None, Some, codes}
-use Rattle.std.specs.Option.{option_map, option_and_then}
 use Rattle.std.specs.Cmp.Lexicographic.{pointwise}
 use Rattle.flow_draw.specs.declared.format.Format.TheVariants.{Svg}
 use Rattle.flow_draw.specs.Escape.{escaped}

@@ -21,7 +21,7 @@ picture_text number svg = joined (
 abbrev pub part_text : ℕ → Part → List ℕ
 part_text number (Text words) = paragraph_text words
 part_text number (Picture svg) = picture_text number svg.items
-part_text number (Table table) = table_text table
+part_text number (Table table) = table_text number table
 
 unfoldable pub heading_text : ℕ → List ℕ → List ℕ
 heading_text number heading = joined (

@@ -1,12 +1,12 @@
 -- Tables of a page.
 use Rattle.std.specs.Prelude.{ℕ, Bool, true, false, List, [], ◌∷◌, ◌++◌, codes}
 use Rattle.std.specs.List.{flat_map}
+use Rattle.std.specs.Fmt.{decimal}
 use Rattle.flow_draw.specs.declared.format.Format.TheVariants.{Svg}
 use Rattle.flow_draw.specs.Escape.{escaped}
 use Rattle.flow_draw.specs.Pieces.{joined}
 use Rattle.flow_page.specs.declared.data.Row.{Row}
 use Rattle.flow_page.specs.declared.data.Table.{Table}
-use Rattle.flow_page.specs.declared.style.TheConstants.{TABLE_OPEN}
 
 -- the head of a column
 unfoldable pub column_text : List ℕ → List ℕ
@@ -31,13 +31,17 @@ row_head_text is_taken_back head = joined (row_open is_taken_back ∷ escaped Sv
 unfoldable pub row_text : Row → List ℕ
 row_text row = row_head_text row.is_taken_back row.head ++ flat_map cell_text row.cells.items ++ codes "</tr>\n"
 
+-- the label of a table is the heading of that number
+unfoldable pub table_open : ℕ → List ℕ
+table_open number = joined (codes "<div class=\"wide\"><table aria-labelledby=\"part-" ∷ decimal number ∷ codes "\">\n<thead><tr>" ∷ [])
+
 -- the heads of the columns, in order
-unfoldable pub heads_text : List (List ℕ) → List ℕ
-heads_text heads = TABLE_OPEN.now ++ flat_map column_text heads ++ codes "</tr></thead>\n"
+unfoldable pub heads_text : ℕ → List (List ℕ) → List ℕ
+heads_text number heads = table_open number ++ flat_map column_text heads ++ codes "</tr></thead>\n"
 
 -- each row once, in order
 unfoldable pub body_text : List Row → List ℕ
 body_text rows = codes "<tbody>\n" ++ flat_map row_text rows ++ codes "</tbody>\n</table></div>\n"
 
-unfoldable pub table_text : Table → List ℕ
-table_text table = heads_text table.heads.items ++ body_text table.rows.items
+unfoldable pub table_text : ℕ → Table → List ℕ
+table_text number table = heads_text number table.heads.items ++ body_text table.rows.items

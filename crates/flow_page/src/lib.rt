@@ -3,6 +3,7 @@
 
 mod data;
 mod inside;
+mod made;
 mod page;
 mod sections;
 mod style;
@@ -10,4 +11,5 @@ mod tables;
 
 pub use data::{Page, Part, Row, Section, Table};
 pub use inside::law_texts_stay_inside;
+pub use made::{paragraph, row, tabled, told};
 pub use page::print_page;

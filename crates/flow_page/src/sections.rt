@@ -61,7 +61,7 @@ fn push_part(text: &mut Vec<u8>, number: u64, part: &Part) -> Result<(), AllocEr
     match part {
         Part::Text(words) => push_paragraph(text, words.bytes()),
         Part::Picture(svg) => push_picture(text, number, svg),
-        Part::Table(table) => push_table(text, table),
+        Part::Table(table) => push_table(text, number, table),
     }
 }
 

@@ -28,7 +28,7 @@ tbody th{font-weight:normal}
 .taken-back td{color:var(--dim);text-decoration:line-through}
 em{font-style:normal;font-weight:bold;color:var(--alert)}
 svg{display:block}
-@media(max-width:40rem){main{padding:.75rem}th,td{padding:.25rem .4rem;font-size:.875rem}}
+@media(max-width:40rem){main{padding:.75rem}th,td{padding:.25rem .4rem;font-size:.875rem}tbody th,td{overflow-wrap:anywhere;min-width:3.5rem}}
 @media print{
 :root{color-scheme:light}
 body{font-size:10pt}
@@ -41,7 +41,3 @@ thead{display:table-header-group}
 }
 </style>
 ";
-
-/// The begin of a table. Where it is wider than the page, it is moved in a frame of its own.
-pub(crate) const TABLE_OPEN: &[u8] = b"<div class=\"wide\"><table>
-<thead><tr>";

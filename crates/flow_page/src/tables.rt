@@ -1,29 +1,43 @@
 ghost use Rattle.std.specs.Prelude.{◌≡◌, ◌++◌, OnOk};
 ghost use Rattle.std.specs.List.{flat_map};
-ghost use Rattle.flow_page.specs.Tables.{column_text, cell_text, row_open, row_mark, row_head_text, row_text, heads_text, body_text, table_text};
+ghost use Rattle.flow_page.specs.Tables.{column_text, cell_text, row_open, row_mark, row_head_text, row_text, table_open, heads_text, body_text, table_text};
 
 use crate::data::{Row, Table};
-use crate::style::TABLE_OPEN;
 use flow_draw::{Format, Piece, push_pieces};
 use flow_facts::Name;
 use std::alloc::AllocError;
 
-/// Adds a table.
+/// Adds a table. Its label is the heading of that number. Where it is wider than the page, it is moved in a frame of its own.
 #[tactic(auto, unfolding(crate::specs::Tables::table_text))]
-pub(crate) fn push_table(text: &mut Vec<u8>, table: &Table) -> Result<(), AllocError>
-    ensures { OnOk result (text.new.items ≡ text.old.items ++ table_text table.now) }
+pub(crate) fn push_table(text: &mut Vec<u8>, number: u64, table: &Table) -> Result<(), AllocError>
+    ensures { OnOk result (text.new.items ≡ text.old.items ++ table_text number table.now) }
 {
-    push_heads(text, &table.heads)?;
+    push_heads(text, number, &table.heads)?;
     push_body(text, &table.rows)
 }
 
 #[tactic(auto, unfolding(crate::specs::Tables::heads_text))]
-fn push_heads(text: &mut Vec<u8>, heads: &[Name]) -> Result<(), AllocError>
-    ensures { OnOk result (text.new.items ≡ text.old.items ++ heads_text heads.now) }
+fn push_heads(text: &mut Vec<u8>, number: u64, heads: &[Name]) -> Result<(), AllocError>
+    ensures { OnOk result (text.new.items ≡ text.old.items ++ heads_text number heads.now) }
 {
-    text.extend_from_slice(TABLE_OPEN)?;
+    push_open(text, number)?;
     push_columns(text, heads)?;
     text.extend_from_slice(b"</tr></thead>\n")
+}
+
+/// Adds the begin of a table.
+#[tactic(auto, unfolding(crate::specs::Tables::table_open))]
+fn push_open(text: &mut Vec<u8>, number: u64) -> Result<(), AllocError>
+    ensures { OnOk result (text.new.items ≡ text.old.items ++ table_open number) }
+{
+    push_pieces(
+        text,
+        &[
+            Piece::Words(b"<div class=\"wide\"><table aria-labelledby=\"part-"),
+            Piece::Number(number),
+            Piece::Words(b"\">\n<thead><tr>"),
+        ],
+    )
 }
 
 #[tactic(auto, unfolding(crate::specs::Tables::body_text))]

@@ -9,7 +9,7 @@ use flow_call::{NO_MEMORY, WORDS, is_folder};
 use flow_call_cases::{
     ask_case, case_report, dialogue, draw_case, is_case_command, make, verify, write_page,
 };
-use flow_call_folders::{export, list};
+use flow_call_folders::{export, is_office, list, write_office};
 use flow_call_logs::{draw_log, log_file};
 use flow_call_move::move_case;
 use flow_call_policies::answer;
@@ -74,6 +74,16 @@ fn lint<R: Files<File = File> + AllocGlobal + Print + Eprint>(
     lint_file(rt, words)
 }
 
+/// Writes the page of a case, or of a folder of cases, and gives the status.
+fn page<
+    R: Files<File = File> + Clock + AllocGlobal + Print + Eprint + Threads + Sync + Clone + Drop,
+>(rt: &R, words: &ArgMatches<'_>) -> u8 {
+    if is_office(rt, words.get_str("case").unwrap_or("")) {
+        return write_office(rt, words);
+    }
+    write_page(rt, words)
+}
+
 /// Does what the words of a subcommand ask for, and gives the status.
 fn called<
     R: Files<File = File>
@@ -99,7 +109,7 @@ fn called<
         "export" => export(rt, words),
         "new" => make(rt, words),
         "move" => move_case(rt, words),
-        "page" => write_page(rt, words),
+        "page" => page(rt, words),
         "verify" => verify(rt, words),
         "open" => dialogue(rt, words, rt.reader(), at_terminal),
         name if is_case_command(name) => ask_case(rt, name, words),

@@ -1,5 +1,6 @@
 use Rattle.std.proofs.Common.{◌≡◌, ◌++◌, drop, map}
-use Rattle.flow_case_page.specs.History.{shown, rows_told}
+use Rattle.flow_page.specs.Shown.{shown}
+use Rattle.flow_case_page.specs.History.{rows_told}
 use Rattle.flow_case_page.proofs.history.rows_of.Given as goal
 
 abbrev pub invariant-loop-place : goal.invariant-loop-place

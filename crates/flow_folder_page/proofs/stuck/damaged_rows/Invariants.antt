@@ -1,0 +1,7 @@
+use Rattle.std.proofs.Common.{◌≡◌, map, take}
+use Rattle.flow_page.specs.Shown.{shown}
+use Rattle.flow_folder_page.specs.Stuck.{damaged_row}
+use Rattle.flow_folder_page.proofs.stuck.damaged_rows.Given as goal
+
+abbrev pub invariant-loop-case : goal.invariant-loop-case
+invariant-loop-case l = map shown l.rows.items ≡ map damaged_row (take l.case-index l.damaged)
