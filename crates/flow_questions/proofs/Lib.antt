@@ -1,2 +1,3 @@
 pub mod NeverLemmas
 pub mod StaffLemmas
+pub mod FoundLemmas

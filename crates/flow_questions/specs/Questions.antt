@@ -1,7 +1,10 @@
 -- What is asked of a workflow and its policy, and what is told.
-use Rattle.std.specs.Prelude.{◌≡◌, ◌≤◌, ℕ, Some}
+use Rattle.std.specs.Prelude.{◌≡◌, ℕ, List, Some}
 use Rattle.flow_model.specs.Facts.{event_at}
+use Rattle.flow_model.specs.Lists.{◌∈◌}
 use Rattle.flow_model.specs.Run.{CanTake, IsLegal}
+use Rattle.flow_plan.specs.Compilation.{Compilation, IsCompiled}
+use Rattle.flow_plan.specs.Sampled.{Sampled}
 use Rattle.flow_core.specs.Run.{schema, now}
 use Rattle.flow_roles.specs.Desked.{Desked, KeepsDuties}
 use Rattle.flow_roles.specs.Having.{HasEvent}
@@ -9,6 +12,9 @@ use Rattle.flow_roles.specs.Answers.{IsLeftTo}
 use Rattle.flow_case.specs.Ruled.{Ruled}
 use Rattle.flow_stages.specs.declared.question.Question.{Question}
 use Rattle.flow_stages.specs.declared.question.Question.TheVariants.{Both, Unmanned}
+use Rattle.flow_stages.specs.declared.search.Searched.{Searched}
+use Rattle.flow_stages.specs.declared.search.Searched.TheVariants as searched
+use Rattle.flow_stages.specs.Asked.{IsShown}
 pub use Rattle.flow_stages.specs.Fitting.{HoldsRoles}
 use Rattle.flow_questions.specs.declared.both.Shared.{Shared}
 use Rattle.flow_questions.specs.declared.both.Shared.TheVariants as shared
@@ -51,14 +57,35 @@ abbrev pub IsNeverIn : Ruled → Question → Type 0
 IsNeverIn c (Both one two) = NobodyHasBoth c one two
 IsNeverIn c Unmanned = AlwaysStaffed c
 
--- where a user is told, the run shows it; never is told where no run does; else no more states were looked at than allowed
+-- the leaves of an option can be done in turn, users may have their events, and what is asked is so after them
+pub record IsFoundIn (c : Ruled) (question : Question) : Type 0 where
+  pub compilation : Compilation
+  pub compiled : IsCompiled (schema c.desk.run) compilation
+  pub kept : Sampled
+  pub of : kept ∈ compilation.plans
+  pub leaves : List ℕ
+  pub takers : List (ℕ × ℕ)
+  pub event : ℕ
+  pub shown : IsShown (schema c.desk.run) c.desk.assigned.duties kept.plan question leaves takers event
+
+-- what a search through the options tells of the case, with so many states left
+abbrev pub LooksIn : Ruled → Question → ℕ → Searched → Type 0
+LooksIn c question left searched.Nothing = IsNeverIn c question
+LooksIn c question left (searched.Shown leaves takers event) = IsFoundIn c question
+LooksIn c question left searched.Spent = left ≡ 0
+
+-- where a user is told, the run shows it; never is told where no run does; it is undecided only where all states were looked at; and unmade
+-- where an option shows it, and the run does not
 abbrev pub TellsOfBoth : Ruled → ℕ → ℕ → ℕ → Shared → Type 0
 TellsOfBoth c one two states (shared.By user) = HasBoth c.desk one two user
 TellsOfBoth c one two states shared.Never = NobodyHasBoth c one two
-TellsOfBoth c one two states (shared.Undecided looked) = looked ≤ states
+TellsOfBoth c one two states (shared.Undecided looked) = looked ≡ states
+TellsOfBoth c one two states shared.Unmade = IsFoundIn c (Both one two)
 
--- where a leaf is told, the run ends there; always is told where no run ends so; else no more states were looked at than allowed
+-- where a leaf is told, the run ends there; always is told where no run ends so; it is undecided only where all states were looked at; and
+-- unmade where an option shows it, and the run does not
 abbrev pub TellsOfStaff : Ruled → ℕ → Manning → Type 0
 TellsOfStaff c states (manning.Unmanned leaf) = IsUnmanned c.desk leaf
 TellsOfStaff c states manning.Always = AlwaysStaffed c
-TellsOfStaff c states (manning.Undecided looked) = looked ≤ states
+TellsOfStaff c states (manning.Undecided looked) = looked ≡ states
+TellsOfStaff c states manning.Unmade = IsFoundIn c Unmanned

@@ -18,8 +18,10 @@ pub enum Shared {
     By(u32),
     /// No user can, in any run.
     Never,
-    /// No such run was found among so many states. There may be one.
+    /// No such run was found among so many states, which are all that were allowed. There may be one.
     Undecided(u64),
+    /// An option has such a run. Not all of its entries were made, or it did not show what is asked.
+    Unmade,
 }
 
 /// Whether the user has the event in the run.
@@ -47,6 +49,7 @@ fn who_has_both(run: &RuledRun, one: u32, two: u32, users: u32) -> Option<u32>
 
 /// Looks for a run of the case, which has no entry yet, in which one user has both events. Where one is found, the run is made. Not more than so
 /// many states are looked at.
+#[tactic(auto, using(crate::proofs::FoundLemmas::found_still))]
 pub fn alone(
     alloc: Global,
     run: &mut RuledRun,
@@ -74,7 +77,7 @@ pub fn alone(
             do_all(run, &leaves, &takers);
             Ok(match who_has_both(run, one, two, users) {
                 Some(user) => Shared::By(user),
-                None => Shared::Undecided(states.saturating_sub(left)),
+                None => Shared::Unmade,
             })
         }
     }

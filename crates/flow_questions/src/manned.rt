@@ -21,8 +21,10 @@ pub enum Manning {
     Unmanned(u32),
     /// There is always somebody, in every run.
     Always,
-    /// No such run was found among so many states. There may be one.
+    /// No such run was found among so many states, which are all that were allowed. There may be one.
     Undecided(u64),
+    /// An option has such a run. Not all of its entries were made, or it did not show what is asked.
+    Unmade,
 }
 
 /// Whether nobody may take the event.
@@ -68,6 +70,7 @@ fn unmanned(run: &RuledRun, event: u32, users: u32) -> Option<u32>
 
 /// Looks for a run of the case, which has no entry yet, behind which an event may be begun that nobody may take. Where one is found, the run is
 /// made. Not more than so many states are looked at.
+#[tactic(auto, using(crate::proofs::FoundLemmas::found_still))]
 pub fn staffed(
     alloc: Global,
     run: &mut RuledRun,
@@ -92,7 +95,7 @@ pub fn staffed(
             do_all(run, &leaves, &takers);
             Ok(match unmanned(run, event, users) {
                 Some(leaf) => Manning::Unmanned(leaf),
-                None => Manning::Undecided(states.saturating_sub(left)),
+                None => Manning::Unmade,
             })
         }
     }

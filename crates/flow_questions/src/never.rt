@@ -1,9 +1,8 @@
-//! A search that finds nothing.
-ghost use Rattle.std.specs.Prelude.{◌≡◌, IfOk};
+//! A search through the options of a run's workflow.
+ghost use Rattle.std.specs.Prelude.{IfOk};
 ghost use Rattle.flow_core.specs.Run.{schema};
 ghost use Rattle.flow_plan.specs.Compilation.{IsCompiled};
-ghost use Rattle.flow_stages.specs.declared.search.Searched.TheVariants.{Nothing};
-ghost use Rattle.flow_questions.specs.Questions.{HoldsRoles, IsNeverIn};
+ghost use Rattle.flow_questions.specs.Questions.{HoldsRoles, LooksIn};
 
 use flow_case::RuledRun;
 use flow_plan::Compiled;
@@ -21,7 +20,7 @@ pub(crate) fn look_for(
 ) -> Result<Searched, AllocError>
     requires roles { HoldsRoles run.now.desk.assigned.duties users }
     requires compiled { IsCompiled (schema run.now.desk.run) compiled.now }
-    ensures { IfOk result (λ found. found ≡ Nothing → IsNeverIn run.now question) }
+    ensures { IfOk result (LooksIn run.now question left.new) }
 {
     let workflow = run.core().workflow();
     // what it keeps of its goal

@@ -22,16 +22,18 @@ use Rattle.flow_policy_lint.specs.Heads.{head_of}
 use Rattle.flow_policy_lint.specs.Told.{ArePolicyFindings, IsNothing}
 use Rattle.flow_questions_cli.specs.Subject.{IsOfTexts}
 
--- a run shows it: 1; no run does: 0; it is not decided: 7
+-- a run shows it: 1; no run does: 0; it is not decided, or no run shows what was found: 7
 abbrev pub status_of_shared : Shared → Status
 status_of_shared (shared.By user) = ending.No
 status_of_shared shared.Never = ending.Fine
 status_of_shared (shared.Undecided looked) = ending.Spent
+status_of_shared shared.Unmade = ending.Spent
 
 abbrev pub status_of_manning : Manning → Status
 status_of_manning (manning.Unmanned leaf) = ending.No
 status_of_manning manning.Always = ending.Fine
 status_of_manning (manning.Undecided looked) = ending.Spent
+status_of_manning manning.Unmade = ending.Spent
 
 -- a run of the texts: each of its entries was legal, and duties hold after each of them
 pub record IsRunOfTexts (workflow policy : List ℕ) (d : Desked) : Type 0 where

@@ -33,6 +33,7 @@ fn status_of_shared(told: Shared) -> Status
         Shared::By(_) => Status::No,
         Shared::Never => Status::Fine,
         Shared::Undecided(_) => Status::Spent,
+        Shared::Unmade => Status::Spent,
     }
 }
 
@@ -44,6 +45,7 @@ fn status_of_manning(told: Manning) -> Status
         Manning::Unmanned(_) => Status::No,
         Manning::Always => Status::Fine,
         Manning::Undecided(_) => Status::Spent,
+        Manning::Unmade => Status::Spent,
     }
 }
 

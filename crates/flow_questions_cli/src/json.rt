@@ -8,6 +8,9 @@ use flow_questions::{Manning, Shared};
 use flow_writer::Writer;
 use std::alloc::{AllocError, Global};
 
+/// Where an option has such a run, which could not be made.
+const UNMADE: &str = "{\"answer\":\"unmade\"}\n";
+
 /// Adds an entry as an object.
 fn push_entry(
     writer: &mut Writer,
@@ -64,6 +67,7 @@ pub(crate) fn shared(
         }
         Shared::Never => writer.words("{\"answer\":\"never\"}\n")?,
         Shared::Undecided(looked) => push_undecided(&mut writer, looked)?,
+        Shared::Unmade => writer.words(UNMADE)?,
     }
     Ok(writer.text)
 }
@@ -83,6 +87,7 @@ pub(crate) fn manned(
         }
         Manning::Always => writer.words("{\"answer\":\"always\"}\n")?,
         Manning::Undecided(looked) => push_undecided(&mut writer, looked)?,
+        Manning::Unmade => writer.words(UNMADE)?,
     }
     Ok(writer.text)
 }

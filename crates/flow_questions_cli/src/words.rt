@@ -8,6 +8,10 @@ use flow_questions::{Manning, Shared};
 use flow_writer::Writer;
 use std::alloc::{AllocError, Global};
 
+/// Where an option has such a run, which could not be made.
+const UNMADE: &str =
+    "unmade: such a run was found, but could not be made (a fault of this program: please report it)\n";
+
 /// Adds the line of an entry: who makes it, what it does, and what stands at its leaf.
 fn push_entry(
     writer: &mut Writer,
@@ -70,6 +74,7 @@ pub(crate) fn shared(
             writer.words(" in one run\n")?;
         }
         Shared::Undecided(looked) => push_undecided(&mut writer, looked)?,
+        Shared::Unmade => writer.words(UNMADE)?,
     }
     Ok(writer.text)
 }
@@ -101,6 +106,7 @@ pub(crate) fn manned(
             writer.words("always: whatever may be begun, there is somebody who may take it\n")?;
         }
         Manning::Undecided(looked) => push_undecided(&mut writer, looked)?,
+        Manning::Unmade => writer.words(UNMADE)?,
     }
     Ok(writer.text)
 }

@@ -19,7 +19,7 @@ use Rattle.flow_stages.specs.declared.search.Look.TheVariants as look
 use Rattle.flow_stages.specs.declared.wanted.Wanted.{Wanted}
 use Rattle.flow_stages.specs.Asked.{wanted_by, IsToHave, FitsAfter, IsHopeless, IsRunOf, IsNeverSo}
 use Rattle.flow_stages.specs.Fitting.{Fits}
-use Rattle.flow_stages.specs.Listed.{IsListed, IsCovered, IsQuiet, AreQuiet, MayFollow, IsFollowed, IsOpen}
+use Rattle.flow_stages.specs.Listed.{IsListed, IsCovered, IsQuiet, AreQuiet, MayFollow, IsFollowed, IsOpen, IsTold, IsToldOn}
 use Rattle.flow_stages.proofs.StageLemmas.{next_as}
 
 -- ---- runs
@@ -91,8 +91,14 @@ place_of (y ∷ list) x (inr m) = let (k, within, at) = place_of list x m in (su
 pub not_open : (l : Look) → (l ≡ look.Open → ⊥) → IsOpen l → ⊥
 not_open look.Open other going = other refl
 not_open look.Hopeless other going = going
-not_open (look.Shown takers event) other going = going
+not_open (look.Shown leaves takers event) other going = going
 not_open look.Spent other going = going
+
+pub told_on : (w : Schema) (d : Duties) (p : Planned) (question : Question) (left : ℕ) (l : Look) → IsTold w d p question left l → (l ≡ look.Hopeless → ⊥) → IsToldOn w d p question left l
+told_on w d p question left look.Open told other = told
+told_on w d p question left look.Hopeless told other = other refl
+told_on w d p question left (look.Shown leaves takers event) told other = told
+told_on w d p question left look.Spent told other = told
 
 -- what is so of an answer, where there is one
 pub ok_given : {A E : Type 0} (Q : A → Type 0) (r : Result A E) → ((a : A) → r ≡ Ok a → Q a) → IfOk r Q

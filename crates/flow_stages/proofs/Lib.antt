@@ -1,7 +1,10 @@
 pub mod Loops
 pub mod TieLemmas
 pub mod TryingLemmas
+pub mod TogetherLemmas
+pub mod NearLemmas
 pub mod StageLemmas
 pub mod LookLemmas
 pub mod Closure
+pub mod ReachedLemmas
 pub mod Histories

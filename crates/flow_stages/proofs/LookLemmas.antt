@@ -10,8 +10,13 @@ use Rattle.flow_model.proofs.Lists.{mem-append, mem_append_left, mem_append_righ
 use Rattle.flow_stages.specs.declared.question.Question.{Question}
 use Rattle.flow_stages.specs.declared.wanted.Wanted.{Wanted}
 use Rattle.flow_stages.specs.declared.wanted.Wanted.TheVariants.{Anybody, NobodyFor}
-use Rattle.flow_stages.specs.Asked.{wanted_by, IsEventOf, IsToHave, FitsAfter}
-use Rattle.flow_stages.specs.Fitting.{Fits, HasSomebody}
+use Rattle.flow_stages.specs.declared.nodes.Node.{Node}
+use Rattle.flow_stages.specs.declared.question.Question.TheVariants.{Both}
+use Rattle.flow_plan.specs.Orders.{MayComeNext}
+use Rattle.flow_plan.specs.Planned.{Planned}
+use Rattle.flow_stages.specs.Asked.{wanted_by, IsEventOf, IsToHave, FitsAfter, IsSo, IsShown}
+use Rattle.flow_stages.specs.Listed.{IsReached, IsLookedAt}
+use Rattle.flow_stages.specs.Fitting.{Fits, HasSomebody, taker_by}
 use Rattle.flow_stages.proofs.Closure.{fits_as}
 
 -- it is the event of a leaf of the list with a number below
@@ -89,3 +94,41 @@ fits_any d event P to fits = record {
 
 pub somebody_as : (d : Duties) (event : ℕ) (P Q : ℕ → Type 0) (to : ℕ → ℕ) → ((f : ℕ) → Q f → P f) → HasSomebody d event P to → HasSomebody d event Q to
 somebody_as d event P Q to less (user, role, beside) = (user, role, λ f m. beside f (less f m))
+
+-- nobody may have it, so nobody is to
+pub fits_none : (d : Duties) (event : ℕ) (P : ℕ → Type 0) (to : ℕ → ℕ) → Fits d (NobodyFor event) P to → Fits d Anybody P to
+fits_none d event P to fits = record {
+  role = fits.role;
+  beside = λ e f m k. let goes = fits.beside e f m k in record { same = goes.same; apart = goes.apart; together = goes.together; one = λ none. absurd none };
+}
+
+-- users who fit the events fit the leaves
+pub fits_after : (w : Schema) (d : Duties) (question : Question) (wanted : Wanted) (list events : List ℕ) (to : ℕ → ℕ) → wanted_by question ≡ wanted →
+    ((e : ℕ) → (e ∈ events) ↔ IsToHave w question list e) → Fits d wanted (λ e. e ∈ events) to → FitsAfter w d question list to
+fits_after w d question wanted list events to is are fits =
+    subst (λ (v : Wanted). Fits d v (IsToHave w question list) to) (sym is) (fits_as d wanted (IsToHave w question list) (λ e. e ∈ events) to (λ e. (are e).1) fits)
+
+-- what is shown of an event that nobody may take
+pub unmanned_shown : (w : Schema) (d : Duties) (p : Planned) (question : Question) (node : Node) (events : List ℕ) (takers : List (ℕ × ℕ)) (event leaf : ℕ) →
+    IsLookedAt w p question node events → MayComeNext p (λ x. x ∈ node.leaves.items) leaf → event_at w.labels leaf ≡ Some event →
+    Fits d Anybody (λ e. e ∈ events) (taker_by takers) → ¬ (HasSomebody d event (λ e. e ∈ events) (taker_by takers)) →
+    IsShown w d p question node.leaves.items takers event
+unmanned_shown w d p question node events takers event leaf looked may of fits none = record {
+  run = looked.reached.run;
+  fits = fits_after w d question Anybody node.leaves.items events (taker_by takers) (ap wanted_by looked.unmanned) looked.are fits;
+  so = subst (λ (q : Question). IsSo w d p q node.leaves.items (taker_by takers) event) (sym looked.unmanned) (
+    (leaf, may, of),
+    λ some. none (somebody_as d event (IsEventOf w node.leaves.items) (λ e. e ∈ events) (taker_by takers) (λ f m.
+        ⊎_elim (λ named. absurd named) (λ e. e) (subst (λ (q : Question). IsToHave w q node.leaves.items f) looked.unmanned ((looked.are f).0 m))) some),
+  );
+}
+
+-- what is shown of one user who has both
+pub both_shown : (w : Schema) (d : Duties) (p : Planned) (question : Question) (node : Node) (takers : List (ℕ × ℕ)) (one two event : ℕ) → question ≡ Both one two →
+    IsReached w p node → FitsAfter w d question node.leaves.items (taker_by takers) → IsEventOf w node.leaves.items one → IsEventOf w node.leaves.items two →
+    IsShown w d p question node.leaves.items takers event
+both_shown w d p question node takers one two event is reached fits first second = record {
+  run = reached.run;
+  fits = fits;
+  so = subst (λ (q : Question). IsSo w d p q node.leaves.items (taker_by takers) event) (sym is) (first, second);
+}

@@ -1,12 +1,12 @@
 -- Users tried for events one after another, and which users are still to come.
-use Rattle.std.proofs.Common.{◌≡◌, ◌<◌, ◌≤◌, ◌+◌, ◌⊎◌, ℕ, zero, suc, List, [], ◌∷◌, ◌++◌, length, get_or, slice_get, Some, inl, inr, ⊎_elim, refl, sym, ap, subst, ◌∙◌, arith}
+use Rattle.std.proofs.Common.{◌≡◌, ◌<◌, ◌≤◌, ◌+◌, ◌⊎◌, ℕ, zero, suc, List, [], ◌∷◌, ◌++◌, length, take, get_or, slice_get, Some, inl, inr, ⊎_elim, refl, sym, ap, subst, ◌∙◌, arith}
 use Rattle.std.proofs.lemmas.Bool.{cases_lt}
 use Rattle.flow_model.specs.Duties.{Duties}
 use Rattle.flow_model.specs.Lists.{◌∈◌, Each}
 use Rattle.flow_model.proofs.Lists.{each_member, each_from_members, mem-slice_get}
 use Rattle.flow_stages.specs.declared.wanted.Wanted.{Wanted}
 use Rattle.flow_stages.specs.declared.wanted.Wanted.TheVariants.{Anybody, OneFor, NobodyFor}
-use Rattle.flow_stages.specs.Fitting.{HoldsRoles, GoesWith, MayHave, Fits, HasSomebody, Misses, MissesBy}
+use Rattle.flow_stages.specs.Fitting.{HoldsRoles, GoesWith, MayHave, Fits, HasSomebody, Misses, MissesBy, AreUntied, IsFar}
 use Rattle.flow_stages.specs.Trying.{ComesAt, IsToCome, AreOfFirst}
 
 -- the users go to the events of the takers as these do
@@ -56,18 +56,25 @@ next_is [] k e at = cc
 next_is (x ∷ events) zero e at = let f : Some x ≡ Some e = at in cc
 next_is (x ∷ events) (suc k) e at = next_is events k e at
 
-event_of : (events : List ℕ) (taken : List (ℕ × ℕ)) → AreOfFirst events taken → (t : ℕ × ℕ) → t ∈ taken → t.0 ∈ events
+pub event_of : (events : List ℕ) (taken : List (ℕ × ℕ)) → AreOfFirst events taken → (t : ℕ × ℕ) → t ∈ taken → t.0 ∈ events
 event_of [] [] h t m = absurd m
 event_of (e ∷ events) [] h t m = absurd m
 event_of [] (x ∷ taken) h t m = absurd h
 event_of (e ∷ events) (x ∷ taken) (s, h) t (inl is) = inl (ap (λ (p : ℕ × ℕ). p.0) is ∙ s)
 event_of (e ∷ events) (x ∷ taken) (s, h) t (inr m) = inr (event_of events taken h t m)
 
-taker_of : (events : List ℕ) (taken : List (ℕ × ℕ)) → AreOfFirst events taken → length events ≤ length taken → (e : ℕ) → e ∈ events → (t : ℕ × ℕ) × (t ∈ taken) × (t.0 ≡ e)
+pub taker_of : (events : List ℕ) (taken : List (ℕ × ℕ)) → AreOfFirst events taken → length events ≤ length taken → (e : ℕ) → e ∈ events → (t : ℕ × ℕ) × (t ∈ taken) × (t.0 ≡ e)
 taker_of [] taken h all e m = absurd m
 taker_of (x ∷ events) [] h all e m = absurd (omega arith)
 taker_of (x ∷ events) (t ∷ taken) (s, h) all e (inl is) = (t, inl refl, s ∙ sym is)
 taker_of (x ∷ events) (t ∷ taken) (s, h) all e (inr m) = let (u, there, is) = taker_of events taken h (omega arith) e m in (u, inr there, is)
+
+taker_near : (events : List ℕ) (taken : List (ℕ × ℕ)) → AreOfFirst events taken → (e : ℕ) → e ∈ take (length taken) events → (t : ℕ × ℕ) × (t ∈ taken) × (t.0 ≡ e)
+taker_near [] [] h e m = absurd m
+taker_near (x ∷ events) [] h e m = absurd m
+taker_near [] (t ∷ taken) h e m = absurd h
+taker_near (x ∷ events) (t ∷ taken) (s, h) e (inl is) = (t, inl refl, s ∙ sym is)
+taker_near (x ∷ events) (t ∷ taken) (s, h) e (inr m) = let (u, there, is) = taker_near events taken h e m in (u, inr there, is)
 
 module _ (d : Duties) (wanted : Wanted) (events : List ℕ) (to : ℕ → ℕ) (taken : List (ℕ × ℕ)) (first : AreOfFirst events taken) where
   -- users that fit may have each event beside the takers, where those are the same
@@ -100,25 +107,42 @@ module _ (d : Duties) (wanted : Wanted) (events : List ℕ) (to : ℕ → ℕ) (
       comes_only taken (from ≤ to (get_or events (length taken) 0)) ⊥ to (λ agrees past.
       none (to e) (subst (λ x. from ≤ to x) is past) (roles (to e) e (fits.role e there)) (may_have_it fits e there agrees)) comes
 
-  somebody : (event : ℕ) → length events ≤ length taken → Agrees taken to → (user : ℕ) × MayHave d Anybody taken event user → HasSomebody d event (λ e. e ∈ events) to
+  -- the event has a taker, or that does not bear on who may take the other one
+  somebody : (event : ℕ) → ((f : ℕ) → f ∈ events → ((t : ℕ × ℕ) × (t ∈ taken) × (t.0 ≡ f)) ⊎ AreUntied d event f) → Agrees taken to →
+      (user : ℕ) × MayHave d Anybody taken event user → HasSomebody d event (λ e. e ∈ events) to
   somebody event all agrees (user, may) = (
     user,
     may.role,
-    λ f m.
-        let (t, there, is) = taker_of events taken first all f m in
+    λ f m. ⊎_elim (λ (t, there, is).
         let goes = each_member (λ (t : ℕ × ℕ). GoesWith d Anybody event user t.0 t.1) taken may.beside t there in
         let taker : t.1 ≡ to f = sym (each_member (λ (t : ℕ × ℕ). to t.0 ≡ t.1) taken agrees t there) ∙ ap to is in
-        subst (λ u. GoesWith d Anybody event user f u) taker (subst (λ x. GoesWith d Anybody event user x t.1) is goes),
+        subst (λ u. GoesWith d Anybody event user f u) taker (subst (λ x. GoesWith d Anybody event user x t.1) is goes))
+        (λ (untied : AreUntied d event f). record {
+          same = λ is. absurd (untied.differ is);
+          apart = λ other i tie. absurd (untied.apart i tie);
+          together = λ other i tie. absurd (untied.together i tie);
+          one = λ none. absurd none;
+        }) (all f m),
   )
 
-  -- all have takers, which are not what is wanted
-  pub missed : (from : ℕ) → length events ≤ length taken → MissesBy d wanted taken → IsToCome events taken from to → Misses d wanted (λ e. e ∈ events) to ⊎ ComesAt taken ⊥ to
-  missed from all misses comes = comes_as taken (from ≤ to (get_or events (length taken) 0)) ⊥ (Misses d wanted (λ e. e ∈ events) to) to (λ agrees past. inl (by wanted misses agrees)) comes
+  -- those that bear on it have takers, which are not what is wanted
+  pub missed : (from : ℕ) → ((f : ℕ) → f ∈ events → ((t : ℕ × ℕ) × (t ∈ taken) × (t.0 ≡ f)) ⊎ IsFar d wanted f) → MissesBy d wanted taken → IsToCome events taken from to →
+      Misses d wanted (λ e. e ∈ events) to ⊎ ComesAt taken ⊥ to
+  missed from all misses comes = comes_as taken (from ≤ to (get_or events (length taken) 0)) ⊥ (Misses d wanted (λ e. e ∈ events) to) to (λ agrees past. inl (by wanted all misses agrees)) comes
     where
-      by : (v : Wanted) → MissesBy d v taken → Agrees taken to → Misses d v (λ e. e ∈ events) to
-      by Anybody misses agrees = misses
-      by (OneFor one two) misses agrees = misses
-      by (NobodyFor event) misses agrees = somebody event all agrees misses
+      by : (v : Wanted) → ((f : ℕ) → f ∈ events → ((t : ℕ × ℕ) × (t ∈ taken) × (t.0 ≡ f)) ⊎ IsFar d v f) → MissesBy d v taken → Agrees taken to → Misses d v (λ e. e ∈ events) to
+      by Anybody all misses agrees = misses
+      by (OneFor one two) all misses agrees = misses
+      by (NobodyFor event) all misses agrees = somebody event all agrees misses
+
+  -- all have takers
+  pub all_taken : length events ≤ length taken → (f : ℕ) → f ∈ events → ((t : ℕ × ℕ) × (t ∈ taken) × (t.0 ≡ f)) ⊎ IsFar d wanted f
+  all_taken all f m = inl (taker_of events taken first all f m)
+
+  -- the first ones have takers
+  pub near_taken : (near : ℕ) → length taken ≡ near → ((f : ℕ) → f ∈ events → (f ∈ take near events) ⊎ IsFar d wanted f) →
+      (f : ℕ) → f ∈ events → ((t : ℕ × ℕ) × (t ∈ taken) × (t.0 ≡ f)) ⊎ IsFar d wanted f
+  near_taken near count far f m = ⊎_elim (λ k. inl (taker_near events taken first f (subst (λ n. f ∈ take n events) (sym count) k))) (λ off. inr off) (far f m)
 
 -- a taker less
 pub taken_back : (events : List ℕ) (to : ℕ → ℕ) (taken : List (ℕ × ℕ)) (e user next : ℕ) → AreOfFirst events (taken ++ (e, user) ∷ []) → next ≤ user + 1 →

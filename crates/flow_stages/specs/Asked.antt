@@ -11,7 +11,7 @@ use Rattle.flow_stages.specs.declared.question.Question.{Question}
 use Rattle.flow_stages.specs.declared.question.Question.TheVariants.{Both, Unmanned}
 use Rattle.flow_stages.specs.declared.wanted.Wanted.{Wanted}
 use Rattle.flow_stages.specs.declared.wanted.Wanted.TheVariants.{Anybody, OneFor}
-use Rattle.flow_stages.specs.Fitting.{Fits, HasSomebody}
+use Rattle.flow_stages.specs.Fitting.{Fits, HasSomebody, taker_by}
 
 -- what is wanted of takers
 abbrev pub wanted_by : Question → Wanted
@@ -52,3 +52,15 @@ pub record IsRunOf (w : Schema) (p : Planned) (list : List ℕ) : Type 0 where
 -- in no run of the plan it is so, whoever takes the events
 abbrev pub IsNeverSo : Schema → Duties → Planned → Question → Type 0
 IsNeverSo w d p question = (list : List ℕ) (to : ℕ → ℕ) → IsRunOf w p list → FitsAfter w d question list to → IsNotSo w d p question list to
+
+-- after the leaves, which go to these users, what is asked is so, of that event
+abbrev pub IsSo : Schema → Duties → Planned → Question → List ℕ → (ℕ → ℕ) → ℕ → Type 0
+IsSo w d p (Both one two) list to event = IsEventOf w list one × IsEventOf w list two
+IsSo w d p Unmanned list to event =
+    ((n : ℕ) × MayComeNext p (λ x. x ∈ list) n × (event_at w.labels n ≡ Some event)) × ¬ (HasSomebody d event (IsEventOf w list) to)
+
+-- the leaves are a run of the plan, the takers may have its events, and what is asked is so after it
+pub record IsShown (w : Schema) (d : Duties) (p : Planned) (question : Question) (leaves : List ℕ) (takers : List (ℕ × ℕ)) (event : ℕ) : Type 0 where
+  pub run : IsRunOf w p leaves
+  pub fits : FitsAfter w d question leaves (taker_by takers)
+  pub so : IsSo w d p question leaves (taker_by takers) event

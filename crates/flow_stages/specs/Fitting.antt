@@ -1,5 +1,5 @@
 -- Users for events, as duties let them have these.
-use Rattle.std.specs.Prelude.{◌≡◌, ◌≢◌, ◌<◌, ◌⊎◌, ℕ, List}
+use Rattle.std.specs.Prelude.{◌≡◌, ◌≢◌, ◌<◌, ◌⊎◌, ◌==◌, if◌then◌else◌, ℕ, List, [], ◌∷◌}
 use Rattle.flow_model.specs.Duties.{Duties, HasRole, IsConstraintOf}
 use Rattle.flow_model.specs.Lists.{Each}
 use Rattle.flow_stages.specs.declared.wanted.Wanted.{Wanted}
@@ -21,6 +21,11 @@ pub record GoesWith (d : Duties) (wanted : Wanted) (event user other taker : ℕ
   pub apart : event ≢ other → (i : ℕ) → IsConstraintOf d.separate i event other → user ≢ taker
   pub together : event ≢ other → (i : ℕ) → IsConstraintOf d.bound i event other → user ≡ taker
   pub one : AreForOne wanted event other → user ≡ taker
+
+-- who takes the event by these takers: the first who does; 0 where none does
+abbrev pub taker_by : List (ℕ × ℕ) → ℕ → ℕ
+taker_by [] e = 0
+taker_by (t ∷ takers) e = if t.0 == e then t.1 else taker_by takers e
 
 -- beside events that have takers
 pub record MayHave (d : Duties) (wanted : Wanted) (taken : List (ℕ × ℕ)) (event user : ℕ) : Type 0 where
@@ -47,3 +52,15 @@ abbrev pub MissesBy : Duties → Wanted → List (ℕ × ℕ) → Type 0
 MissesBy d Anybody taken = ⊥
 MissesBy d (OneFor one two) taken = ⊥
 MissesBy d (NobodyFor event) taken = (user : ℕ) × MayHave d Anybody taken event user
+
+-- the two events are different, and no constraint is of them
+pub record AreUntied (d : Duties) (event other : ℕ) : Type 0 where
+  pub differ : event ≢ other
+  pub apart : (i : ℕ) → ¬ (IsConstraintOf d.separate i event other)
+  pub together : (i : ℕ) → ¬ (IsConstraintOf d.bound i event other)
+
+-- who takes the other event does not bear on whether the event that is to be nobody's is so
+abbrev pub IsFar : Duties → Wanted → ℕ → Type 0
+IsFar d Anybody other = Unit {0}
+IsFar d (OneFor one two) other = Unit {0}
+IsFar d (NobodyFor event) other = AreUntied d event other

@@ -4,3 +4,4 @@ pub mod Remains
 pub mod Stages
 pub mod Asked
 pub mod Listed
+pub mod Found

@@ -1,5 +1,5 @@
 //! What is asked, at a stage of an option.
-ghost use Rattle.std.specs.Prelude.{◌≡◌, ◌<◌, ◌↔◌, ◌⊎◌, ℕ, List, Some, None, false, length, IsTrue, IfOk, IfNone, IfSome};
+ghost use Rattle.std.specs.Prelude.{◌≡◌, ◌<◌, ◌≤◌, ◌↔◌, ◌⊎◌, ℕ, List, Some, None, false, length, IsTrue, IfOk, IfNone, IfSome};
 ghost use Rattle.leaf_rows.specs.Leaves.{has_leaf};
 ghost use Rattle.flow_model.specs.declared.limits.TheConstants.{MOST_LEAVES};
 ghost use Rattle.flow_model.specs.Facts.{event_at};
@@ -11,13 +11,14 @@ ghost use Rattle.flow_plan.specs.Orders.{MayComeNext};
 ghost use Rattle.flow_plan.specs.Rows.{IsRowOf};
 ghost use Rattle.flow_stages.specs.declared.question.Question.TheVariants as asked;
 ghost use Rattle.flow_stages.specs.declared.wanted.Wanted.TheVariants.{Anybody};
-ghost use Rattle.flow_stages.specs.Asked.{IsEventOf, IsToHave, IsHopeless};
-ghost use Rattle.flow_stages.specs.Fitting.{HoldsRoles, Fits, HasSomebody};
-ghost use Rattle.flow_stages.specs.Listed.{IsOpen, IsHopelessLook, IsQuiet};
+ghost use Rattle.flow_stages.specs.Asked.{IsEventOf, IsToHave, IsHopeless, FitsAfter};
+ghost use Rattle.flow_stages.specs.Fitting.{HoldsRoles, Fits, HasSomebody, taker_by};
+ghost use Rattle.flow_stages.specs.Listed.{IsOpen, IsHopelessLook, IsQuiet, IsReached, IsTold, IsLookedAt};
 ghost use Rattle.flow_stages.specs.Stages.{IsAfter};
 
+use crate::nodes::Node;
 use crate::question::Question;
-use crate::search::{Look, Search};
+use crate::search::{Look, Search, Takers};
 use crate::staffing::Filled;
 use crate::stage::Stage;
 use crate::wanted::Wanted;
@@ -68,7 +69,8 @@ impl Search<'_> {
 
     /// Whether a leaf of the event is done.
     fn is_done(&self, stage: &Stage, event: u32) -> bool
-        ensures { (list : List ℕ) → IsAfter (schema_of self.now.workflow.now) list stage.now → result ≡ false → ¬ (IsEventOf (schema_of self.now.workflow.now) list event) }
+        ensures out { (list : List ℕ) → IsAfter (schema_of self.now.workflow.now) list stage.now → result ≡ false → ¬ (IsEventOf (schema_of self.now.workflow.now) list event) }
+        ensures done { (list : List ℕ) → IsAfter (schema_of self.now.workflow.now) list stage.now → IsTrue result → IsEventOf (schema_of self.now.workflow.now) list event }
     {
         for leaf in 0..self.workflow.tree().leaves() {
             if self.event_done(stage, leaf) == Some(event) {
@@ -78,32 +80,63 @@ impl Search<'_> {
         false
     }
 
+    /// Whether leaves of both events are done.
+    fn are_done(&self, stage: &Stage, one: u32, two: u32) -> bool
+        ensures out { (list : List ℕ) → IsAfter (schema_of self.now.workflow.now) list stage.now → result ≡ false →
+            ¬ (IsEventOf (schema_of self.now.workflow.now) list one × IsEventOf (schema_of self.now.workflow.now) list two) }
+        ensures done { (list : List ℕ) → IsAfter (schema_of self.now.workflow.now) list stage.now → IsTrue result →
+            IsEventOf (schema_of self.now.workflow.now) list one × IsEventOf (schema_of self.now.workflow.now) list two }
+    {
+        self.is_done(stage, one) && self.is_done(stage, two)
+    }
+
+    /// That one user can have both events at the stage, where both are done.
+    fn shown_for_both(
+        &self,
+        node: &Node,
+        one: u32,
+        two: u32,
+        takers: Takers,
+    ) -> Result<Look, AllocError>
+        requires asked { self.now.question ≡ asked.Both one two }
+        ensures going { IfOk result (λ look. ¬ (IsHopelessLook look)) }
+        ensures quiet { IfOk result (λ look. IsOpen look → IsQuiet (schema_of self.now.workflow.now) self.now.staff.policy.now.duties self.now.plan.now self.now.question node.now.stage) }
+        ensures told { (left : ℕ) → IsReached (schema_of self.now.workflow.now) self.now.plan.now node.now →
+            FitsAfter (schema_of self.now.workflow.now) self.now.staff.policy.now.duties self.now.question node.now.leaves.items (taker_by takers.items) →
+            IfOk result (IsTold (schema_of self.now.workflow.now) self.now.staff.policy.now.duties self.now.plan.now self.now.question left) }
+    {
+        if self.are_done(&node.stage, one, two) {
+            node.shown(takers, one)
+        } else {
+            drop(takers);
+            Ok(Look::Open)
+        }
+    }
+
     /// Whether one user can have both events at the stage.
     fn look_for_both(
         &self,
         alloc: Global,
-        stage: &Stage,
+        node: &Node,
         one: u32,
         two: u32,
         states: &mut u64,
     ) -> Result<Look, AllocError>
         requires roles { HoldsRoles self.now.staff.policy.now.duties self.now.staff.users }
         requires asked { self.now.question ≡ asked.Both one two }
-        ensures hopeless { IfOk result (λ look. IsHopelessLook look → (list : List ℕ) → IsAfter (schema_of self.now.workflow.now) list stage.now →
+        ensures hopeless { IfOk result (λ look. IsHopelessLook look → (list : List ℕ) → IsAfter (schema_of self.now.workflow.now) list node.now.stage →
             IsHopeless (schema_of self.now.workflow.now) self.now.staff.policy.now.duties self.now.question list) }
-        ensures quiet { IfOk result (λ look. IsOpen look → IsQuiet (schema_of self.now.workflow.now) self.now.staff.policy.now.duties self.now.plan.now self.now.question stage.now) }
+        ensures quiet { IfOk result (λ look. IsOpen look → IsQuiet (schema_of self.now.workflow.now) self.now.staff.policy.now.duties self.now.plan.now self.now.question node.now.stage) }
+        ensures told { IsReached (schema_of self.now.workflow.now) self.now.plan.now node.now → IfOk result (IsTold (schema_of self.now.workflow.now) self.now.staff.policy.now.duties self.now.plan.now self.now.question states.new) }
+        ensures fewer { states.new ≤ states.old }
     {
-        let events = self.events(alloc, stage)?;
+        let events = self.events(alloc, &node.stage)?;
         let mut takers = Vec::new(alloc);
         let wanted = Wanted::OneFor(one, two);
-        match self.staff.fill(wanted, &events, &mut takers, states)? {
+        match self.staff.fill(wanted, &events, 0, &mut takers, states)? {
             Filled::Never => Ok(Look::Hopeless),
             Filled::Spent => Ok(Look::Spent),
-            Filled::Found => Ok(if self.is_done(stage, one) && self.is_done(stage, two) {
-                Look::Shown(takers, one)
-            } else {
-                Look::Open
-            }),
+            Filled::Found => self.shown_for_both(node, one, two, takers),
         }
     }
 
@@ -111,6 +144,7 @@ impl Search<'_> {
     fn look_at_leaf(
         &self,
         alloc: Global,
+        node: &Node,
         events: &[u32],
         leaf: u32,
         states: &mut u64,
@@ -120,16 +154,20 @@ impl Search<'_> {
             event_at (schema_of self.now.workflow.now).labels leaf ≡ Some e →
             IfOk result (λ look. IsOpen look → HasSomebody self.now.staff.policy.now.duties e (λ f. f ∈ events.now) to) }
         ensures going { IfOk result (λ look. ¬ (IsHopelessLook look)) }
+        ensures told { IsLookedAt (schema_of self.now.workflow.now) self.now.plan.now self.now.question node.now events.now → MayComeNext self.now.plan.now (λ x. x ∈ node.now.leaves.items) leaf → IfOk result (IsTold (schema_of self.now.workflow.now) self.now.staff.policy.now.duties self.now.plan.now self.now.question states.new) }
+        ensures fewer { states.new ≤ states.old }
     {
         let Some(event) = self.workflow.tree().event(leaf) else {
             return Ok(Look::Open);
         };
         let mut takers = Vec::new(alloc);
-        let wanted = Wanted::NobodyFor(event);
-        match self.staff.fill(wanted, events, &mut takers, states)? {
+        match self
+            .staff
+            .fill_for_nobody(alloc, event, events, &mut takers, states)?
+        {
             Filled::Never => Ok(Look::Open),
             Filled::Spent => Ok(Look::Spent),
-            Filled::Found => Ok(Look::Shown(takers, event)),
+            Filled::Found => node.shown(takers, event),
         }
     }
 
@@ -137,6 +175,7 @@ impl Search<'_> {
     fn look_if_next(
         &self,
         alloc: Global,
+        node: &Node,
         events: &[u32],
         leaf: u32,
         row: &LeafSet<LEAF_WORDS>,
@@ -148,9 +187,11 @@ impl Search<'_> {
             IsTrue (has_leaf row.now leaf) → event_at (schema_of self.now.workflow.now).labels leaf ≡ Some e →
             IfOk result (λ look. IsOpen look → HasSomebody self.now.staff.policy.now.duties e (λ f. f ∈ events.now) to) }
         ensures going { IfOk result (λ look. ¬ (IsHopelessLook look)) }
+        ensures told { IsLookedAt (schema_of self.now.workflow.now) self.now.plan.now self.now.question node.now events.now → (IsTrue (has_leaf row.now leaf) → MayComeNext self.now.plan.now (λ x. x ∈ node.now.leaves.items) leaf) → IfOk result (IsTold (schema_of self.now.workflow.now) self.now.staff.policy.now.duties self.now.plan.now self.now.question states.new) }
+        ensures fewer { states.new ≤ states.old }
     {
         if row.has(leaf) {
-            self.look_at_leaf(alloc, events, leaf, states)
+            self.look_at_leaf(alloc, node, events, leaf, states)
         } else {
             Ok(Look::Open)
         }
@@ -160,6 +201,7 @@ impl Search<'_> {
     fn look_at_next(
         &self,
         alloc: Global,
+        node: &Node,
         events: &[u32],
         row: &LeafSet<LEAF_WORDS>,
         states: &mut u64,
@@ -169,9 +211,11 @@ impl Search<'_> {
             n ∈ Process.leaves self.now.plan.now.process → IsTrue (has_leaf row.now n) → event_at (schema_of self.now.workflow.now).labels n ≡ Some e →
             IfOk result (λ look. IsOpen look → HasSomebody self.now.staff.policy.now.duties e (λ f. f ∈ events.now) to) }
         ensures going { IfOk result (λ look. ¬ (IsHopelessLook look)) }
+        ensures told { IsLookedAt (schema_of self.now.workflow.now) self.now.plan.now self.now.question node.now events.now → ((n : ℕ) → IsTrue (has_leaf row.now n) → MayComeNext self.now.plan.now (λ x. x ∈ node.now.leaves.items) n) → IfOk result (IsTold (schema_of self.now.workflow.now) self.now.staff.policy.now.duties self.now.plan.now self.now.question states.new) }
+        ensures fewer { states.new ≤ states.old }
     {
         for leaf in self.plan.leaves() {
-            match self.look_if_next(alloc, events, *leaf, row, states)? {
+            match self.look_if_next(alloc, node, events, *leaf, row, states)? {
                 Look::Open => {}
                 look => return Ok(look),
             }
@@ -183,27 +227,29 @@ impl Search<'_> {
     fn look_for_unmanned(
         &self,
         alloc: Global,
-        stage: &Stage,
+        node: &Node,
         states: &mut u64,
     ) -> Result<Look, AllocError>
         requires folds { AreFoldRows self.now.plan.now.process self.now.folds.now }
         requires roles { HoldsRoles self.now.staff.policy.now.duties self.now.staff.users }
         requires asked { self.now.question ≡ asked.Unmanned }
-        ensures hopeless { IfOk result (λ look. IsHopelessLook look → (list : List ℕ) → IsAfter (schema_of self.now.workflow.now) list stage.now →
+        ensures hopeless { IfOk result (λ look. IsHopelessLook look → (list : List ℕ) → IsAfter (schema_of self.now.workflow.now) list node.now.stage →
             IsHopeless (schema_of self.now.workflow.now) self.now.staff.policy.now.duties self.now.question list) }
-        ensures quiet { IfOk result (λ look. IsOpen look → IsQuiet (schema_of self.now.workflow.now) self.now.staff.policy.now.duties self.now.plan.now self.now.question stage.now) }
+        ensures quiet { IfOk result (λ look. IsOpen look → IsQuiet (schema_of self.now.workflow.now) self.now.staff.policy.now.duties self.now.plan.now self.now.question node.now.stage) }
+        ensures told { IsReached (schema_of self.now.workflow.now) self.now.plan.now node.now → IfOk result (IsTold (schema_of self.now.workflow.now) self.now.staff.policy.now.duties self.now.plan.now self.now.question states.new) }
+        ensures fewer { states.new ≤ states.old }
     {
-        let events = self.events(alloc, stage)?;
+        let events = self.events(alloc, &node.stage)?;
         let mut takers = Vec::new(alloc);
         match self
             .staff
-            .fill(Wanted::Anybody, &events, &mut takers, states)?
+            .fill(Wanted::Anybody, &events, 0, &mut takers, states)?
         {
             Filled::Never => Ok(Look::Hopeless),
             Filled::Spent => Ok(Look::Spent),
             Filled::Found => {
-                let row = self.next_row(stage);
-                self.look_at_next(alloc, &events, &row, states)
+                let row = self.next_row(&node.stage);
+                self.look_at_next(alloc, node, &events, &row, states)
             }
         }
     }
@@ -212,18 +258,20 @@ impl Search<'_> {
     pub(crate) fn look(
         &self,
         alloc: Global,
-        stage: &Stage,
+        node: &Node,
         states: &mut u64,
     ) -> Result<Look, AllocError>
         requires folds { AreFoldRows self.now.plan.now.process self.now.folds.now }
         requires roles { HoldsRoles self.now.staff.policy.now.duties self.now.staff.users }
-        ensures hopeless { IfOk result (λ look. IsHopelessLook look → (list : List ℕ) → IsAfter (schema_of self.now.workflow.now) list stage.now →
+        ensures hopeless { IfOk result (λ look. IsHopelessLook look → (list : List ℕ) → IsAfter (schema_of self.now.workflow.now) list node.now.stage →
             IsHopeless (schema_of self.now.workflow.now) self.now.staff.policy.now.duties self.now.question list) }
-        ensures quiet { IfOk result (λ look. IsOpen look → IsQuiet (schema_of self.now.workflow.now) self.now.staff.policy.now.duties self.now.plan.now self.now.question stage.now) }
+        ensures quiet { IfOk result (λ look. IsOpen look → IsQuiet (schema_of self.now.workflow.now) self.now.staff.policy.now.duties self.now.plan.now self.now.question node.now.stage) }
+        ensures told { IsReached (schema_of self.now.workflow.now) self.now.plan.now node.now → IfOk result (IsTold (schema_of self.now.workflow.now) self.now.staff.policy.now.duties self.now.plan.now self.now.question states.new) }
+        ensures fewer { states.new ≤ states.old }
     {
         match self.question {
-            Question::Both(one, two) => self.look_for_both(alloc, stage, one, two, states),
-            Question::Unmanned => self.look_for_unmanned(alloc, stage, states),
+            Question::Both(one, two) => self.look_for_both(alloc, node, one, two, states),
+            Question::Unmanned => self.look_for_unmanned(alloc, node, states),
         }
     }
 }

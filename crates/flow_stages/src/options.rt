@@ -1,14 +1,11 @@
 //! All options of a workflow, searched one after another.
-ghost use Rattle.std.specs.Prelude.{◌≡◌, IfOk};
-ghost use Rattle.flow_model.specs.Lists.{◌∈◌};
+ghost use Rattle.std.specs.Prelude.{◌≤◌, IfOk};
 ghost use Rattle.flow_workflow.specs.Definition.{schema_of};
-ghost use Rattle.flow_plan.specs.Sampled.{Sampled};
-ghost use Rattle.flow_stages.specs.declared.search.Searched.TheVariants.{Nothing};
-ghost use Rattle.flow_stages.specs.Asked.{IsNeverSo};
 ghost use Rattle.flow_stages.specs.Fitting.{HoldsRoles};
+ghost use Rattle.flow_stages.specs.Found.{TellsOf};
 
 use crate::question::Question;
-use crate::search::{Search, Searched};
+use crate::search::{Look, Search, Searched};
 use crate::staffing::Staff;
 use flow_plan::Compiled;
 use flow_policy::Policy;
@@ -32,8 +29,8 @@ pub fn search_options(
     states: &mut u64,
 ) -> Result<Searched, AllocError>
     requires { HoldsRoles subject.policy.now.duties subject.users }
-    ensures { IfOk result (λ found. found ≡ Nothing → (kept : Sampled) → kept ∈ subject.entry.compiled.now.plans →
-        IsNeverSo (schema_of subject.entry.workflow.now) subject.entry.policy.now.duties kept.plan question) }
+    ensures told { IfOk result (TellsOf (schema_of subject.entry.workflow.now) subject.entry.policy.now.duties subject.entry.compiled.now.plans question states.new) }
+    ensures fewer { states.new ≤ states.old }
 {
     let Subject {
         workflow,
@@ -50,8 +47,16 @@ pub fn search_options(
             question,
         };
         match search.run(alloc, states)? {
-            Searched::Nothing => {}
-            found => return Ok(found),
+            Look::Open => {}
+            Look::Hopeless => unreachable!(),
+            Look::Spent => return Ok(Searched::Spent),
+            Look::Shown(leaves, takers, event) => {
+                return Ok(Searched::Shown {
+                    leaves,
+                    takers,
+                    event,
+                });
+            }
         }
     }
     Ok(Searched::Nothing)

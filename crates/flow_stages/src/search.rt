@@ -1,5 +1,5 @@
 //! The stages of an option, looked at in turn.
-ghost use Rattle.std.specs.Prelude.{◌≡◌, ◌<◌, ◌++◌, ◌∷◌, [], ℕ, List, Some, IsTrue, IfOk, IfNone, IfSome, slice_get};
+ghost use Rattle.std.specs.Prelude.{◌≡◌, ◌<◌, ◌≤◌, ◌++◌, ◌∷◌, [], ℕ, List, Some, IsTrue, IfOk, IfNone, IfSome, length, slice_get};
 ghost use Rattle.leaf_rows.specs.Leaves.{has_leaf};
 ghost use Rattle.flow_model.specs.declared.limits.TheConstants.{MOST_LEAVES};
 ghost use Rattle.flow_model.specs.Facts.{HoldsAt, replay};
@@ -8,14 +8,14 @@ ghost use Rattle.flow_model.specs.Process;
 ghost use Rattle.flow_model.specs.Schema.{start_of};
 ghost use Rattle.flow_workflow.specs.Definition.{schema_of};
 ghost use Rattle.flow_plan.specs.FoldRows.{AreFoldRows};
+ghost use Rattle.flow_plan.specs.Orders.{MayComeNext};
 ghost use Rattle.flow_stages.specs.declared.nodes.Node.{Node};
-ghost use Rattle.flow_stages.specs.declared.search.Searched.TheVariants.{Nothing};
 ghost use Rattle.flow_stages.specs.Asked.{IsNeverSo};
 ghost use Rattle.flow_stages.specs.Fitting.{HoldsRoles};
-ghost use Rattle.flow_stages.specs.Listed.{IsCovered, IsQuiet, AreQuiet, IsFollowed, IsOpen};
+ghost use Rattle.flow_stages.specs.Listed.{IsCovered, IsQuiet, AreQuiet, IsFollowed, IsOpen, IsReached, AreReached, IsToldOn};
 ghost use Rattle.flow_stages.specs.Stages.{IsAfter};
 
-use crate::nodes::{Node, depth_at, is_known, path_to};
+use crate::nodes::{Node, is_known};
 use crate::question::Question;
 use crate::staffing::Staff;
 use crate::stage::Stage;
@@ -35,8 +35,8 @@ pub enum Look {
     Open,
     /// No users can take the events up to here so that what is asked could be so here or later.
     Hopeless,
-    /// It is so here, with these takers, of this event.
-    Shown(Takers, u32),
+    /// It is so here: the leaves that were done in turn, their takers, and the event.
+    Shown(Vec<u32>, Takers, u32),
     /// The states are spent.
     Spent,
 }
@@ -64,6 +64,15 @@ pub struct Search<'a> {
     pub(crate) question: Question,
 }
 
+/// The leaves, and the leaf behind them.
+fn with_leaf(leaves: &Vec<u32>, leaf: u32) -> Result<Vec<u32>, AllocError>
+    ensures { IfOk result (λ more. more.items ≡ leaves.now.items ++ leaf ∷ []) }
+{
+    let mut more = leaves.clone()?;
+    more.push(leaf)?;
+    Ok(more)
+}
+
 impl Search<'_> {
     /// The stage once the leaf is done, where its label holds.
     fn stage_after(
@@ -77,6 +86,8 @@ impl Search<'_> {
             IfOk result (λ next. IfNone next (¬ (HoldsAt (schema_of self.now.workflow.now).labels (replay (schema_of self.now.workflow.now).labels (start_of (schema_of self.now.workflow.now)) list) leaf))) }
         ensures after { (list : List ℕ) → IsAfter (schema_of self.now.workflow.now) list stage.now →
             IfOk result (λ next. IfSome next (IsAfter (schema_of self.now.workflow.now) (list ++ leaf ∷ []))) }
+        ensures holds { (list : List ℕ) → IsAfter (schema_of self.now.workflow.now) list stage.now →
+            IfOk result (λ next. IfSome next (λ x. HoldsAt (schema_of self.now.workflow.now).labels (replay (schema_of self.now.workflow.now).labels (start_of (schema_of self.now.workflow.now)) list) leaf)) }
     {
         let label = self.workflow.tree().label(leaf);
         if stage.lets(label) {
@@ -86,37 +97,51 @@ impl Search<'_> {
         }
     }
 
-    /// Looks at a stage that is reached from the one at the place. It is kept where it is new and the search goes on from it.
+    /// The stage at the place once the leaf is done there, where its label holds.
+    fn node_after(&self, alloc: Global, node: &Node, leaf: u32) -> Result<Option<Node>, AllocError>
+        requires { leaf < MOST_LEAVES }
+        ensures none { (list : List ℕ) → IsAfter (schema_of self.now.workflow.now) list node.now.stage →
+            IfOk result (λ next. IfNone next (¬ (HoldsAt (schema_of self.now.workflow.now).labels (replay (schema_of self.now.workflow.now).labels (start_of (schema_of self.now.workflow.now)) list) leaf))) }
+        ensures after { (list : List ℕ) → IsAfter (schema_of self.now.workflow.now) list node.now.stage →
+            IfOk result (λ next. IfSome next (λ next. IsAfter (schema_of self.now.workflow.now) (list ++ leaf ∷ []) next.stage)) }
+        ensures reached { IsReached (schema_of self.now.workflow.now) self.now.plan.now node.now → MayComeNext self.now.plan.now (λ x. x ∈ node.now.leaves.items) leaf →
+            IfOk result (λ next. IfSome next (IsReached (schema_of self.now.workflow.now) self.now.plan.now)) }
+    {
+        let Some(stage) = self.stage_after(alloc, &node.stage, leaf)? else {
+            return Ok(None);
+        };
+        let leaves = with_leaf(&node.leaves, leaf)?;
+        Ok(Some(Node { stage, leaves }))
+    }
+
+    /// Looks at a stage that is reached. It is kept where it is new and the search goes on from it.
     fn reach(
         &self,
         alloc: Global,
         nodes: &mut Vec<Node>,
-        stage: Stage,
-        place: usize,
-        leaf: u32,
+        node: Node,
         states: &mut u64,
     ) -> Result<Look, AllocError>
         requires folds { AreFoldRows self.now.plan.now.process self.now.folds.now }
         requires roles { HoldsRoles self.now.staff.policy.now.duties self.now.staff.users }
+        requires reached { AreReached (schema_of self.now.workflow.now) self.now.plan.now nodes.old.items }
+        requires new { IsReached (schema_of self.now.workflow.now) self.now.plan.now node }
         ensures grows { Begins nodes.new.items nodes.old.items }
+        ensures reached { AreReached (schema_of self.now.workflow.now) self.now.plan.now nodes.new.items }
+        ensures told { IfOk result (IsToldOn (schema_of self.now.workflow.now) self.now.staff.policy.now.duties self.now.plan.now self.now.question states.new) }
+        ensures fewer { states.new ≤ states.old }
         ensures quiet { IfOk result (λ look. IsOpen look → AreQuiet (schema_of self.now.workflow.now) self.now.staff.policy.now.duties self.now.plan.now self.now.question nodes.old.items →
             AreQuiet (schema_of self.now.workflow.now) self.now.staff.policy.now.duties self.now.plan.now self.now.question nodes.new.items) }
-        ensures covered { IfOk result (λ look. IsOpen look → (list : List ℕ) → IsAfter (schema_of self.now.workflow.now) list stage →
+        ensures covered { IfOk result (λ look. IsOpen look → (list : List ℕ) → IsAfter (schema_of self.now.workflow.now) list node.stage →
             IsCovered (schema_of self.now.workflow.now) self.now.staff.policy.now.duties self.now.question nodes.new.items list) }
     {
-        let depth = depth_at(nodes, place).saturating_add(1);
-        if is_known(nodes, &stage, depth) {
+        if is_known(nodes, &node.stage, node.leaves.len()) {
             return Ok(Look::Open);
         }
-        match self.look(alloc, &stage, states)? {
+        match self.look(alloc, &node, states)? {
             Look::Hopeless => Ok(Look::Open),
             look => {
-                nodes.push(Node {
-                    stage,
-                    from: place,
-                    leaf,
-                    depth,
-                })?;
+                nodes.push(node)?;
                 Ok(look)
             }
         }
@@ -134,7 +159,12 @@ impl Search<'_> {
         requires folds { AreFoldRows self.now.plan.now.process self.now.folds.now }
         requires roles { HoldsRoles self.now.staff.policy.now.duties self.now.staff.users }
         requires small { leaf < MOST_LEAVES }
+        requires next { (node : Node) → slice_get nodes.old.items place ≡ Some node → MayComeNext self.now.plan.now (λ x. x ∈ node.leaves.items) leaf }
+        requires reached { AreReached (schema_of self.now.workflow.now) self.now.plan.now nodes.old.items }
         ensures grows { Begins nodes.new.items nodes.old.items }
+        ensures reached { AreReached (schema_of self.now.workflow.now) self.now.plan.now nodes.new.items }
+        ensures told { IfOk result (IsToldOn (schema_of self.now.workflow.now) self.now.staff.policy.now.duties self.now.plan.now self.now.question states.new) }
+        ensures fewer { states.new ≤ states.old }
         ensures quiet { IfOk result (λ look. IsOpen look → AreQuiet (schema_of self.now.workflow.now) self.now.staff.policy.now.duties self.now.plan.now self.now.question nodes.old.items →
             AreQuiet (schema_of self.now.workflow.now) self.now.staff.policy.now.duties self.now.plan.now self.now.question nodes.new.items) }
         ensures covered { IfOk result (λ look. IsOpen look → (node : Node) (list : List ℕ) → slice_get nodes.old.items place ≡ Some node →
@@ -145,8 +175,8 @@ impl Search<'_> {
         let Some(node) = nodes.get(place) else {
             return Ok(Look::Open);
         };
-        match self.stage_after(alloc, &node.stage, leaf)? {
-            Some(stage) => self.reach(alloc, nodes, stage, place, leaf, states),
+        match self.node_after(alloc, node, leaf)? {
+            Some(next) => self.reach(alloc, nodes, next, states),
             None => Ok(Look::Open),
         }
     }
@@ -164,7 +194,12 @@ impl Search<'_> {
         requires folds { AreFoldRows self.now.plan.now.process self.now.folds.now }
         requires roles { HoldsRoles self.now.staff.policy.now.duties self.now.staff.users }
         requires small { leaf < MOST_LEAVES }
+        requires next { (node : Node) → slice_get nodes.old.items place ≡ Some node → IsTrue (has_leaf row.now leaf) → MayComeNext self.now.plan.now (λ x. x ∈ node.leaves.items) leaf }
+        requires reached { AreReached (schema_of self.now.workflow.now) self.now.plan.now nodes.old.items }
         ensures grows { Begins nodes.new.items nodes.old.items }
+        ensures reached { AreReached (schema_of self.now.workflow.now) self.now.plan.now nodes.new.items }
+        ensures told { IfOk result (IsToldOn (schema_of self.now.workflow.now) self.now.staff.policy.now.duties self.now.plan.now self.now.question states.new) }
+        ensures fewer { states.new ≤ states.old }
         ensures quiet { IfOk result (λ look. IsOpen look → AreQuiet (schema_of self.now.workflow.now) self.now.staff.policy.now.duties self.now.plan.now self.now.question nodes.old.items →
             AreQuiet (schema_of self.now.workflow.now) self.now.staff.policy.now.duties self.now.plan.now self.now.question nodes.new.items) }
         ensures covered { IfOk result (λ look. IsOpen look → (node : Node) (list : List ℕ) → slice_get nodes.old.items place ≡ Some node →
@@ -190,7 +225,13 @@ impl Search<'_> {
     ) -> Result<Look, AllocError>
         requires folds { AreFoldRows self.now.plan.now.process self.now.folds.now }
         requires roles { HoldsRoles self.now.staff.policy.now.duties self.now.staff.users }
+        requires reached { AreReached (schema_of self.now.workflow.now) self.now.plan.now nodes.old.items }
+        requires here { place < length nodes.old.items }
+        requires next { (node : Node) (n : ℕ) → slice_get nodes.old.items place ≡ Some node → IsTrue (has_leaf row.now n) → MayComeNext self.now.plan.now (λ x. x ∈ node.leaves.items) n }
         ensures grows { Begins nodes.new.items nodes.old.items }
+        ensures reached { AreReached (schema_of self.now.workflow.now) self.now.plan.now nodes.new.items }
+        ensures told { IfOk result (IsToldOn (schema_of self.now.workflow.now) self.now.staff.policy.now.duties self.now.plan.now self.now.question states.new) }
+        ensures fewer { states.new ≤ states.old }
         ensures quiet { IfOk result (λ look. IsOpen look → AreQuiet (schema_of self.now.workflow.now) self.now.staff.policy.now.duties self.now.plan.now self.now.question nodes.old.items →
             AreQuiet (schema_of self.now.workflow.now) self.now.staff.policy.now.duties self.now.plan.now self.now.question nodes.new.items) }
         ensures covered { IfOk result (λ look. IsOpen look → (node : Node) (list : List ℕ) (n : ℕ) → slice_get nodes.old.items place ≡ Some node →
@@ -217,7 +258,11 @@ impl Search<'_> {
     ) -> Result<Look, AllocError>
         requires folds { AreFoldRows self.now.plan.now.process self.now.folds.now }
         requires roles { HoldsRoles self.now.staff.policy.now.duties self.now.staff.users }
+        requires reached { AreReached (schema_of self.now.workflow.now) self.now.plan.now nodes.old.items }
         ensures grows { Begins nodes.new.items nodes.old.items }
+        ensures reached { AreReached (schema_of self.now.workflow.now) self.now.plan.now nodes.new.items }
+        ensures told { IfOk result (IsToldOn (schema_of self.now.workflow.now) self.now.staff.policy.now.duties self.now.plan.now self.now.question states.new) }
+        ensures fewer { states.new ≤ states.old }
         ensures quiet { IfOk result (λ look. IsOpen look → AreQuiet (schema_of self.now.workflow.now) self.now.staff.policy.now.duties self.now.plan.now self.now.question nodes.old.items →
             AreQuiet (schema_of self.now.workflow.now) self.now.staff.policy.now.duties self.now.plan.now self.now.question nodes.new.items) }
         ensures followed { IfOk result (λ look. IsOpen look → (node : Node) → slice_get nodes.old.items place ≡ Some node →
@@ -239,7 +284,11 @@ impl Search<'_> {
     ) -> Result<Look, AllocError>
         requires folds { AreFoldRows self.now.plan.now.process self.now.folds.now }
         requires roles { HoldsRoles self.now.staff.policy.now.duties self.now.staff.users }
+        requires reached { AreReached (schema_of self.now.workflow.now) self.now.plan.now nodes.old.items }
         ensures grows { Begins nodes.new.items nodes.old.items }
+        ensures reached { AreReached (schema_of self.now.workflow.now) self.now.plan.now nodes.new.items }
+        ensures told { IfOk result (IsToldOn (schema_of self.now.workflow.now) self.now.staff.policy.now.duties self.now.plan.now self.now.question states.new) }
+        ensures fewer { states.new ≤ states.old }
         ensures quiet { IfOk result (λ look. IsOpen look → AreQuiet (schema_of self.now.workflow.now) self.now.staff.policy.now.duties self.now.plan.now self.now.question nodes.old.items →
             AreQuiet (schema_of self.now.workflow.now) self.now.staff.policy.now.duties self.now.plan.now self.now.question nodes.new.items) }
         ensures followed { IfOk result (λ look. IsOpen look → (node : Node) → node ∈ nodes.new.items →
@@ -258,61 +307,52 @@ impl Search<'_> {
                 look => return Ok(look),
             }
         }
+        // no search has so many states
+        *states = 0;
         Ok(Look::Spent)
     }
 
-    /// What is found, where the last stage shows it.
-    fn shown(
-        &self,
-        alloc: Global,
-        nodes: &[Node],
-        takers: Takers,
-        event: u32,
-    ) -> Result<Searched, AllocError>
-        ensures { IfOk result (λ found. ¬ (found ≡ Nothing)) }
+    /// Goes on from the first stage, which shows nothing.
+    fn go_on(&self, alloc: Global, node: Node, states: &mut u64) -> Result<Look, AllocError>
+        requires folds { AreFoldRows self.now.plan.now.process self.now.folds.now }
+        requires roles { HoldsRoles self.now.staff.policy.now.duties self.now.staff.users }
+        requires first { IsAfter (schema_of self.now.workflow.now) [] node.stage }
+        requires reached { IsReached (schema_of self.now.workflow.now) self.now.plan.now node }
+        requires quiet { IsQuiet (schema_of self.now.workflow.now) self.now.staff.policy.now.duties self.now.plan.now self.now.question node.stage }
+        ensures never { IfOk result (λ look. IsOpen look → IsNeverSo (schema_of self.now.workflow.now) self.now.staff.policy.now.duties self.now.plan.now self.now.question) }
+        ensures told { IfOk result (IsToldOn (schema_of self.now.workflow.now) self.now.staff.policy.now.duties self.now.plan.now self.now.question states.new) }
+        ensures fewer { states.new ≤ states.old }
     {
-        let leaves = path_to(alloc, nodes, nodes.len().saturating_sub(1))?;
-        Ok(Searched::Shown {
-            leaves,
-            takers,
-            event,
+        let mut nodes = Vec::new(alloc);
+        nodes.push(node)?;
+        self.explore(alloc, &mut nodes, states)
+    }
+
+    /// The first stage.
+    fn first(&self, alloc: Global) -> Result<Node, AllocError>
+        ensures first { IfOk result (λ node. IsAfter (schema_of self.now.workflow.now) [] node.stage) }
+        ensures reached { IfOk result (IsReached (schema_of self.now.workflow.now) self.now.plan.now) }
+    {
+        let stage = Stage::first(alloc, self.workflow.held())?;
+        Ok(Node {
+            stage,
+            leaves: Vec::new(alloc),
         })
     }
 
-    /// Goes on from the first stage, which shows nothing.
-    fn go_on(&self, alloc: Global, stage: Stage, states: &mut u64) -> Result<Searched, AllocError>
-        requires folds { AreFoldRows self.now.plan.now.process self.now.folds.now }
-        requires roles { HoldsRoles self.now.staff.policy.now.duties self.now.staff.users }
-        requires first { IsAfter (schema_of self.now.workflow.now) [] stage }
-        requires quiet { IsQuiet (schema_of self.now.workflow.now) self.now.staff.policy.now.duties self.now.plan.now self.now.question stage }
-        ensures { IfOk result (λ found. found ≡ Nothing → IsNeverSo (schema_of self.now.workflow.now) self.now.staff.policy.now.duties self.now.plan.now self.now.question) }
-    {
-        let mut nodes = Vec::new(alloc);
-        nodes.push(Node {
-            stage,
-            from: 0,
-            leaf: 0,
-            depth: 0,
-        })?;
-        match self.explore(alloc, &mut nodes, states)? {
-            Look::Open => Ok(Searched::Nothing),
-            Look::Shown(takers, event) => self.shown(alloc, &nodes, takers, event),
-            Look::Hopeless | Look::Spent => Ok(Searched::Spent),
-        }
-    }
-
     /// Looks at the stages of the option, those with fewer leaves first.
-    pub(crate) fn run(&self, alloc: Global, states: &mut u64) -> Result<Searched, AllocError>
+    pub(crate) fn run(&self, alloc: Global, states: &mut u64) -> Result<Look, AllocError>
         requires folds { AreFoldRows self.now.plan.now.process self.now.folds.now }
         requires roles { HoldsRoles self.now.staff.policy.now.duties self.now.staff.users }
-        ensures { IfOk result (λ found. found ≡ Nothing → IsNeverSo (schema_of self.now.workflow.now) self.now.staff.policy.now.duties self.now.plan.now self.now.question) }
+        ensures never { IfOk result (λ look. IsOpen look → IsNeverSo (schema_of self.now.workflow.now) self.now.staff.policy.now.duties self.now.plan.now self.now.question) }
+        ensures told { IfOk result (IsToldOn (schema_of self.now.workflow.now) self.now.staff.policy.now.duties self.now.plan.now self.now.question states.new) }
+        ensures fewer { states.new ≤ states.old }
     {
-        let stage = Stage::first(alloc, self.workflow.held())?;
-        match self.look(alloc, &stage, states)? {
-            Look::Hopeless => Ok(Searched::Nothing),
-            Look::Spent => Ok(Searched::Spent),
-            Look::Shown(takers, event) => self.shown(alloc, &[], takers, event),
-            Look::Open => self.go_on(alloc, stage, states),
+        let node = self.first(alloc)?;
+        match self.look(alloc, &node, states)? {
+            Look::Open => self.go_on(alloc, node, states),
+            Look::Hopeless => Ok(Look::Open),
+            look => Ok(look),
         }
     }
 }

@@ -13,6 +13,9 @@ returns-then-place-len-clause-followed c = λ _ node m.
 pub returns-in_default : goal.returns-in_default
 returns-in_default c = record {
   grows = begins_more c.args.nodes.now.items c.loop-place.nodes.items c.expand.new.nodes.items c.loop-place.invariant.grows c.expand.ensures.grows;
+  reached = c.expand.ensures.reached;
+  told = c.in_ok-look.ensures.told;
+  fewer = omega (arith, c.expand.ensures.fewer, c.loop-place.invariant.fewer);
   quiet = λ going. absurd (not_open c.in_ok-look.look c.in_default.not-Open going);
   followed = λ going. absurd (not_open c.in_ok-look.look c.in_default.not-Open going);
 }
@@ -30,6 +33,8 @@ loop-place-preserved c =
     let inside : place < length old = omega (arith, c.if-place-len.false, c.len.ensures) in
     let going = subst IsOpen (sym c.in-Open.is) tt in record {
       grows = begins_more c.args.nodes.now.items old new c.loop-place.invariant.grows grows;
+      reached = c.expand.ensures.reached;
+      fewer = omega (arith, c.expand.ensures.fewer, c.loop-place.invariant.fewer);
       quiet = λ before. c.in_ok-look.ensures.quiet going (c.loop-place.invariant.quiet before);
       followed = λ k node below at.
           let within : k < length old = omega (arith, below, inside) in

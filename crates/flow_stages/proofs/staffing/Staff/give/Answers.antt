@@ -1,7 +1,8 @@
 use Rattle.std.proofs.Common.{◌≡◌, ◌≤◌, ◌<◌, ℕ, List, ◌++◌, ◌∷◌, [], sym, subst}
 use Rattle.flow_stages.specs.Fitting.{MayHave}
-use Rattle.flow_stages.specs.Trying.{IsToCome, AreOfFirst}
+use Rattle.flow_stages.specs.Trying.{IsToCome, AreOfFirst, AreTogether}
 use Rattle.flow_stages.proofs.TryingLemmas.{first_with, given, not_given}
+use Rattle.flow_stages.proofs.TogetherLemmas.{together_with}
 use Rattle.flow_stages.proofs.staffing.Staff.give.Goals as goal
 
 pub returns-in_ok-push-in-Some-clause-first : goal.returns-in_ok-push-in-Some-clause-first
@@ -23,3 +24,10 @@ returns-in-None-clause-remains c = λ events to first at fits comes.
     let users = c.args.self.now.users in
     let none = subst (λ (taken : List (ℕ × ℕ)). (v : ℕ) → c.args.from ≤ v → v < users → ¬ (MayHave d c.args.wanted taken c.args.event v)) c.deref.ensures.value c.in-None.ensures.none in
     c.back.ensures.remains events to first (not_given d c.args.wanted events to c.args.taken.now.items first c.args.event users c.args.from c.requires fits at none comes)
+
+pub returns-in_ok-push-in-Some-clause-together : goal.returns-in_ok-push-in-Some-clause-together
+returns-in_ok-push-in-Some-clause-together c = λ are.
+    let d = c.args.self.now.policy.now.duties in
+    let items : c.push.new.self.items ≡ c.args.taken.now.items ++ (c.args.event, c.in-Some.user) ∷ [] = c.in_ok-push-in-Some.ensures.items in
+    let may = subst (λ (taken : List (ℕ × ℕ)). MayHave d c.args.wanted taken c.args.event c.in-Some.user) c.deref.ensures.value c.in-Some.ensures.user in
+    subst (AreTogether d c.args.wanted) (sym items) (together_with d c.args.wanted c.args.taken.now.items c.args.event c.in-Some.user are may)
