@@ -64,10 +64,10 @@ CHANGES = [
         "(`flow_keep/src/body.rt`).",
         "Where a caller asks for it, it needs a command too.",
     ], [Thing("an entry that takes leaves back", r"[Rr]ewound", r"\brewound\b"),
-        Thing("an entry that adds a leaf", r"\bDid\b|record_did|make_did", r"\bdid [0-9L]")]),
+        Thing("an entry that adds a leaf", r"\bDid\b|record_did", r"\bdid [0-9L]")]),
     Change("A command of sessions", [
-        "A command that makes an entry is a call of `flow_core` in a file of its own. One that only looks is a call of "
-        "`flow_core/src/lists.rt` or `flow_core/src/next.rt`.",
+        "A command that makes an entry is a call of `flow_core/src/asks.rt`. One that only looks is a call of "
+        "`flow_core/src/next.rt`.",
         "Its refusals, and their order, stand in the table of answers: `flow_core/specs/Answers.antt`. `flow_core/specs/Ask.antt` "
         "leads each command to that table.",
         "Users of a policy and kept runs answer the same asks: `flow_roles/src/answer.rt`, `flow_keep/src/asked.rt`.",

@@ -12,6 +12,7 @@ pub mod RisingLists
 pub mod SingleLemmas
 pub mod StartLemmas
 pub mod MakeLemmas
+pub mod MakeByAsks
 pub mod ListLemmas
 pub mod CallerLemmas
 pub mod Growth

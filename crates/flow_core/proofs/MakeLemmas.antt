@@ -1,13 +1,11 @@
 -- An entry may be made exactly where the history with it is legal.
-use Rattle.std.proofs.Common.{◌≡◌, ◌<◌, ◌+◌, ◌↔◌, ℕ, Bool, true, false, List, [], ◌∷◌, ◌++◌, length, Option, None, Some, MatchOption, is_some, IsTrue, refl, sym, arith, true≢false}
+use Rattle.std.proofs.Common.{◌≡◌, ◌<◌, ◌+◌, ◌↔◌, ℕ, Bool, true, false, List, [], ◌∷◌, ◌++◌, length, IsTrue, refl, sym, arith, true≢false}
 use Rattle.flow_model.specs.declared.history.Entry.{Entry}
 use Rattle.flow_model.specs.Schema.{Schema}
-use Rattle.flow_model.specs.Run.{RunState, first_state, next_state, state_after, current_claims, IsCurrent, IsAllowed, IsLegal, IsLegalFrom}
+use Rattle.flow_model.specs.Run.{RunState, first_state, next_state, state_after, IsAllowed, IsLegal, IsLegalFrom}
 use Rattle.flow_core.specs.Run.{Run, schema}
 use Rattle.flow_core.specs.Make.{CanMake, Makes}
-use Rattle.flow_core.specs.Answers.{IsLeast}
 use Rattle.flow_core.proofs.Steps.{legal-append}
-use Rattle.flow_core.proofs.SingleLemmas.{none_out}
 
 -- what the last entry of a legal history was allowed by
 last_allowed : (w : Schema) (limit : ℕ) (s : RunState) (made : ℕ) (history : List Entry) (entry : Entry) → IsLegalFrom w limit s made (history ++ entry ∷ []) →
@@ -16,11 +14,6 @@ last_allowed w limit s made [] entry (going, room, allowed, rest) = (going, (let
 last_allowed w limit s made (e ∷ history) entry (going, room, allowed, rest) =
     let last = last_allowed w limit (next_state w s e.step) (made + 1) history entry rest in
     (last.0, (let within = last.1 in let r : made + length (e ∷ history) < limit = omega arith in r), last.2)
-
--- where a claim is out, there are current claims
-pub claim_out : (s : RunState) (least : Option ℕ) → MatchOption least (current_claims s ≡ []) (IsLeast (IsCurrent s)) → true ≡ is_some least → ¬ (current_claims s ≡ [])
-claim_out s None told some none = true≢false some
-claim_out s (Some claim) told some none = none_out s claim none told
 
 -- of a run whose history is legal
 module _ (r : Run) (legal : IsLegal (schema r) r.limit r.history) (entry : Entry) where

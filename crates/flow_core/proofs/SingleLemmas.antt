@@ -68,7 +68,7 @@ unanswered_late s n of late =
     let (claim, found, has) = some_claim (λ (c : Claim). (c.answered ≡ false) × (c.epoch ≡ of)) (claim_at s n) late.1 in
     subst (λ o. IsSomeAnd o (λ (c : Claim). c.answered ≡ false)) (sym found) has.0
 
-late_current : (s : RunState) (n of : ℕ) → IsLateOf s n of → IsCurrent s n → ⊥
+pub late_current : (s : RunState) (n of : ℕ) → IsLateOf s n of → IsCurrent s n → ⊥
 late_current s n of late current =
     let (claim, x, y) = both_of s n (λ (c : Claim). (c.answered ≡ false) × (c.epoch ≡ of)) (λ c. IsTrue (is_current s c)) late.1 current in
     let same : claim.epoch ≡ s.epoch = eqb-true claim.epoch s.epoch (and_parts (not claim.answered) (nat_eq claim.epoch s.epoch) y).1 in

@@ -1,8 +1,8 @@
 -- What is listed of a run.
 use Rattle.std.specs.Prelude.{ℕ, IsTrue}
 use Rattle.flow_model.specs.Run.{database, CanDoAside}
-use Rattle.flow_core.specs.declared.lists.Listed.{Listed}
-use Rattle.flow_core.specs.declared.lists.Listed.TheVariants.{Acting, Left, Holding}
+use Rattle.flow_core.specs.declared.next.Listed.{Listed}
+use Rattle.flow_core.specs.declared.next.Listed.TheVariants.{Acting, Left, Holding}
 use Rattle.flow_core.specs.Run.{Run, schema, now}
 use Rattle.flow_core.specs.Next.{CanAct}
 

@@ -1,22 +1,17 @@
 //! One run of a workflow: its history, entry by entry, each of them legal.
 #![tactic(auto)]
 
-mod ahead;
 mod ask;
 mod asked;
+mod asks;
 mod claim;
-mod commit;
-mod holding;
-mod lists;
+mod leaf;
 mod make;
 mod next;
-mod perform;
-mod post;
+mod record;
 mod refusal;
-mod rewind;
 mod run;
 mod single;
-mod take;
 
 pub use ask::{Told, play};
 pub use asked::Asked;

@@ -1,4 +1,5 @@
 ghost use Rattle.std.specs.Prelude.{◌≡◌};
+ghost use Rattle.flow_core.specs.Ask.{of_take, of_do, of_post, of_rewind, of_commit};
 
 use flow_ask::Refusal;
 use thiserror::Error;
@@ -77,8 +78,6 @@ pub enum CommitRefusal {
 }
 
 impl From<TakeRefusal> for Refusal {
-    ghost use Rattle.flow_core.specs.Ask.{of_take};
-
     ghost from_gives = { λ refusal told. told ≡ of_take refusal };
 
     fn from(refusal: TakeRefusal) -> Refusal {
@@ -93,8 +92,6 @@ impl From<TakeRefusal> for Refusal {
 }
 
 impl From<DoRefusal> for Refusal {
-    ghost use Rattle.flow_core.specs.Ask.{of_do};
-
     ghost from_gives = { λ refusal told. told ≡ of_do refusal };
 
     fn from(refusal: DoRefusal) -> Refusal {
@@ -110,8 +107,6 @@ impl From<DoRefusal> for Refusal {
 }
 
 impl From<PostRefusal> for Refusal {
-    ghost use Rattle.flow_core.specs.Ask.{of_post};
-
     ghost from_gives = { λ refusal told. told ≡ of_post refusal };
 
     fn from(refusal: PostRefusal) -> Refusal {
@@ -126,8 +121,6 @@ impl From<PostRefusal> for Refusal {
 }
 
 impl From<RewindRefusal> for Refusal {
-    ghost use Rattle.flow_core.specs.Ask.{of_rewind};
-
     ghost from_gives = { λ refusal told. told ≡ of_rewind refusal };
 
     fn from(refusal: RewindRefusal) -> Refusal {
@@ -140,8 +133,6 @@ impl From<RewindRefusal> for Refusal {
 }
 
 impl From<CommitRefusal> for Refusal {
-    ghost use Rattle.flow_core.specs.Ask.{of_commit};
-
     ghost from_gives = { λ refusal told. told ≡ of_commit refusal };
 
     fn from(refusal: CommitRefusal) -> Refusal {

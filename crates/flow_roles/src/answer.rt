@@ -7,9 +7,6 @@ use flow_core::{Asked, Core};
 use flow_model::{Entry, Step};
 
 impl Desk {
-    ghost use Rattle.flow_model.specs.Facts.{event_at};
-    ghost use Rattle.flow_core.specs.Run.{schema};
-    ghost use Rattle.flow_roles.specs.Answers.{IsLeftTo, IsLeftAt};
     ghost use Rattle.flow_roles.specs.Ask.{DeskAnswers, IsLeftFor, CanMakeAt, IsFirstUnmade};
 
     /// Asks the desk one thing. The other calls that make entries are this one, each with refusals of its own.
@@ -67,34 +64,9 @@ impl Desk {
         let Step::Took { leaf, .. } = entry.step else {
             return true;
         };
-        self.is_left_at(leaf, entry.by)
-    }
-
-    /// Whether the leaf is an event's, and duties leave that to the user.
-    fn is_left_at(&self, leaf: u32, by: u32) -> bool
-        ensures { IsTrue result ↔ IsLeftAt self.now leaf by }
-    {
-        match self.event_at(leaf) {
-            Some(event) => self.is_left_to(event, by),
+        match self.core.workflow().tree().event(leaf) {
+            Some(event) => self.denial(event, entry.by).is_none(),
             None => false,
-        }
-    }
-
-    /// The event of a leaf, if the goal has such a leaf, and it is an event's.
-    fn event_at(&self, leaf: u32) -> Option<u32>
-        ensures { result ≡ event_at (schema self.now.run).labels leaf }
-    {
-        self.core.workflow().tree().event(leaf)
-    }
-
-    /// Whether duties leave the event to the user.
-    #[tactic(auto, using(crate::proofs::SingleLemmas::denied_or_left))]
-    fn is_left_to(&self, event: u32, by: u32) -> bool
-        ensures { IsTrue result ↔ IsLeftTo self.now by event }
-    {
-        match self.denial(event, by) {
-            Some(_) => false,
-            None => true,
         }
     }
 }

@@ -3,7 +3,6 @@
 
 mod answer;
 mod desk;
-mod post;
 mod refusal;
 mod single;
 mod take;

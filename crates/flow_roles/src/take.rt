@@ -4,11 +4,11 @@ ghost use Rattle.flow_core.specs.Answers.{IsLeast};
 
 use crate::desk::Desk;
 use crate::refusal::{Denied, DutyRefusal};
-use flow_core::{Call, TakeRefusal};
+use flow_core::{Call, FailEffect, PostRefusal, TakeRefusal};
 
 impl Desk {
-    ghost use Rattle.flow_roles.specs.Having.{HasEvent, IsWithAnother};
-    ghost use Rattle.flow_roles.specs.Answers.{IsKeptApart, IsTiedElsewhere, IsLeftTo, IsLeftAt, IsDenied, DeskTakes};
+    ghost use Rattle.flow_roles.specs.Having.{HasEvent, IsWithAnother, IsOfAnother};
+    ghost use Rattle.flow_roles.specs.Answers.{IsKeptApart, IsTiedElsewhere, IsLeftTo, IsLeftAt, IsDenied, DeskTakes, DeskPostsDone, DeskPostsFailed};
 
     /// Gives the user a claim on an event's leaf. What the run says against it comes first, then what the duties say.
     pub fn take(&mut self, leaf: u32, by: u32) -> Result<Call, DutyRefusal<TakeRefusal>>
@@ -25,6 +25,36 @@ impl Desk {
         }
     }
 
+    /// Posts that the claim's task succeeded, for the user who took it.
+    pub fn done(&mut self, claim: u32, by: u32) -> Result<(), DutyRefusal<PostRefusal>>
+        ensures { DeskPostsDone self.old claim by result self.new }
+    {
+        if self.is_of_another(claim, by) {
+            return Err(DutyRefusal::Denied(Denied::Holder(claim)));
+        }
+        self.core.done(claim, by).map_err(DutyRefusal::Core)
+    }
+
+    /// Posts that the claim's task failed, for the user who took it.
+    pub fn fail(&mut self, claim: u32, by: u32) -> Result<FailEffect, DutyRefusal<PostRefusal>>
+        ensures { DeskPostsFailed self.old claim by result self.new }
+    {
+        if self.is_of_another(claim, by) {
+            return Err(DutyRefusal::Denied(Denied::Holder(claim)));
+        }
+        self.core.fail(claim, by).map_err(DutyRefusal::Core)
+    }
+
+    /// Whether a result may be posted for the claim, late or not, and another took it.
+    fn is_of_another(&self, claim: u32, by: u32) -> bool
+        ensures { IsOfAnother self.now claim by result }
+    {
+        match self.core.holder_of(claim) {
+            Some(holder) => holder != by,
+            None => false,
+        }
+    }
+
     /// The first duty that keeps the event from the user.
     pub(crate) fn denial(&self, event: u32, by: u32) -> Option<Denied>
         ensures { MatchOption result (IsLeftTo self.now by event) (IsDenied self.now by event) }
@@ -35,10 +65,8 @@ impl Desk {
         if let Some(index) = self.separated_by(event, by) {
             return Some(Denied::Separate(index));
         }
-        match self.bound_by(event, by) {
-            Some(index) => Some(Denied::Bind(index)),
-            None => None,
-        }
+        let index = self.bound_by(event, by)?;
+        Some(Denied::Bind(index))
     }
 
     /// The least constraint by which the event is not for the user, who has another event.
