@@ -131,7 +131,7 @@ CHANGES = [
         Thing("a mode with threads", r"\b[Aa]udit\b|audit_text|Auditors|IsAudited", r"`?flow audit\b|\|audit\||`audit`",
               only={"flow_words", "flow_cli", "flow_cli_laws", "flow_findings", "flow_front", "flow"})]),
     Change("An option of the command line", [
-        "An option of `flow` is a number with bounds: a row of `OPTIONS` in `flow_words/src/command.rt`. An option without a number, or "
+        "An option of `flow` is a number with bounds: an `arg` of the command in `flow_words/src/command.rt`. An option without a number, or "
         "with a word, is a new kind of rule there.",
         "The bounds stand as figures in `crates/flow_words/proofs/request/request_in/Answers.antt`.",
         "Where it turns the form of what is written, the printer of each finding is handed it, and so are `flow_cli/specs/Finding.antt` "

@@ -48,16 +48,14 @@ def limits():
 def options_of_code():
     """Each option with its least and greatest number, and the one without it."""
     known, options = limits(), {}
-    form = r'NumberOption \{\s*name: "(\w+)",\s*least: (\w+),\s*greatest: (\w+),\s*default: "(\d+)",'
+    form = r'number_option\(alloc, "(\w+)", (\w+), (\w+), "(\d+)"\)'
     for name, least, greatest, default in re.findall(form, text("crates/flow_words/src/command.rt")):
         options[name] = tuple(known.get(word) if word in known else int(word) for word in (least, greatest, default))
     return options
 
 
 def modes_of_code():
-    source = text("crates/flow_words/src/request.rt")
-    words = dict(re.findall(r'Mode::(\w+) => "(\w+)"', source))
-    return {words[mode] for mode in re.findall(r"Mode::(\w+),", between("const MODES", "];", source))}
+    return found(r'"(\w+)" => Mode::', text("crates/flow_words/src/request.rt"))
 
 
 def reserved_of_code():

@@ -1,5 +1,5 @@
 -- What words are for.
-use Rattle.std.proofs.Common.{◌≡◌, List, [], Option, inl, inr, refl, ap, sym, subst}
+use Rattle.std.proofs.Common.{◌≡◌, List, [], Option, inl, inr, refl, ap, sym, subst, rules}
 use Rattle.std.specs.Prelude.{◌≢◌, Ok, Err, Result, IfOk, MatchOption}
 use Rattle.std.specs.declared.alloc.AllocError.{AllocError}
 use Rattle.clap.specs.Values.{kind_of}
@@ -8,7 +8,7 @@ use Rattle.clap.specs.declared.error.Error.{Error}
 use Rattle.clap.specs.declared.error.kind.ErrorKind.{ErrorKind}
 use Rattle.clap.specs.declared.error.kind.ErrorKind.TheVariants.{DisplayHelp, DisplayVersion, OutOfMemory}
 use Rattle.flow_words.specs.Command.{flow_app}
-use Rattle.flow_words.specs.Words.{text_asked_by, AsksFor, IsCall, IsFor, IsNoCall, OnePurpose}
+use Rattle.flow_words.specs.Words.{text_asked_by, AsksFor, IsCall, IsFor, IsNoCall, OneRequest, OnePurpose}
 use Rattle.flow_words.specs.declared.purpose.Purpose.{Purpose}
 use Rattle.flow_words.specs.declared.purpose.Purpose.TheVariants.{Answer, Help, Version}
 use Rattle.flow_words.specs.declared.request.Request.{Request}
@@ -42,13 +42,16 @@ module _ (words : List Text) where
   not_asked read none Help help = read_asks_nothing DisplayHelp read help
   not_asked read none Version version = read_asks_nothing DisplayVersion read version
 
-pub one_purpose : ((words : List Text) (a b : Request) → IsCall words a → IsCall words b → a ≡ b) → OnePurpose
-one_purpose requests words (Answer a) (Answer b) p q = ap Answer (requests words a b p q)
-one_purpose requests words (Answer a) Help p q = absurd (read_asks_nothing words DisplayHelp p.0 q)
-one_purpose requests words (Answer a) Version p q = absurd (read_asks_nothing words DisplayVersion p.0 q)
-one_purpose requests words Help (Answer b) p q = absurd (read_asks_nothing words DisplayHelp q.0 p)
-one_purpose requests words Version (Answer b) p q = absurd (read_asks_nothing words DisplayVersion q.0 p)
-one_purpose requests words Help Help p q = refl
-one_purpose requests words Version Version p q = refl
-one_purpose requests words Help Version p q = let bad : DisplayHelp ≡ DisplayVersion = one_fault words DisplayHelp DisplayVersion p q in cc
-one_purpose requests words Version Help p q = let bad : DisplayVersion ≡ DisplayHelp = one_fault words DisplayVersion DisplayHelp p q in cc
+one_request : OneRequest
+one_request words a b p q = search rules
+
+pub one_purpose : OnePurpose
+one_purpose words (Answer a) (Answer b) p q = ap Answer (one_request words a b p q)
+one_purpose words (Answer a) Help p q = absurd (read_asks_nothing words DisplayHelp p.0 q)
+one_purpose words (Answer a) Version p q = absurd (read_asks_nothing words DisplayVersion p.0 q)
+one_purpose words Help (Answer b) p q = absurd (read_asks_nothing words DisplayHelp q.0 p)
+one_purpose words Version (Answer b) p q = absurd (read_asks_nothing words DisplayVersion q.0 p)
+one_purpose words Help Help p q = refl
+one_purpose words Version Version p q = refl
+one_purpose words Help Version p q = let bad : DisplayHelp ≡ DisplayVersion = one_fault words DisplayHelp DisplayVersion p q in cc
+one_purpose words Version Help p q = let bad : DisplayVersion ≡ DisplayHelp = one_fault words DisplayVersion DisplayHelp p q in cc

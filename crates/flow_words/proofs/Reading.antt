@@ -1,5 +1,5 @@
 -- What the command finds in words that it reads.
-use Rattle.std.proofs.Common.{◌≡◌, ◌∙◌, ◌<◌, ◌+◌, fold, take, get_or, ◌==◌, ℕ, zero, suc, ap, sym, subst, refl, arith, inl, inr, eqb-true, cond, drop, length, List, [], ◌∷◌, map, Bool, true, false, Option, Some, None, codes, IfSome}
+use Rattle.std.proofs.Common.{◌≡◌, ◌∙◌, ◌<◌, ◌==◌, ℕ, zero, suc, ap, sym, subst, refl, arith, inl, inr, eqb-true, cond, drop, length, List, [], ◌∷◌, map, Bool, true, false, Option, Some, None, codes, IfSome}
 use Rattle.std.specs.Prelude.{option_and_then, option_map, pos, slice_get, unwrap_or, Result, Ok, Err, IfOk, MatchResult}
 use Rattle.std.specs.List.{All, position_or_len, slice_index_or}
 use Rattle.std.specs.Str.{bytes_eq}
@@ -7,13 +7,12 @@ use Rattle.std.specs.Str.Parse.{IsNumeral, starts_with_minus, without_leading_pl
 use Rattle.std.specs.Borrow.{Bor}
 use Rattle.std.proofs.lemmas.Bool.{not-true}
 use Rattle.std.proofs.lemmas.Int.{ints}
-use Rattle.std.proofs.lemmas.List.{get_or-map, length-map, take_more}
-use Rattle.std.proofs.lemmas.List.Sums.{fold-append}
+use Rattle.std.proofs.lemmas.List.{get_or-map, length-map}
 use Rattle.std.proofs.lemmas.List.Elements.{All-get_or}
 use Rattle.std.proofs.lemmas.Slice.Eq.{bytes_eq-Decides}
 use Rattle.std.proofs.lemmas.Str.Parse.{digit_from_value, without_leading_plus_none}
 use Rattle.flow_model.specs.declared.limits.TheConstants.{GREATEST_SEED, GREATEST_SIZE, MOST_ENTRIES, MOST_WORKERS}
-use Rattle.clap.specs.Words.{Accepts, App, Rule, Text, app_of, args_of, found_of, groups_of, matched_of, one_text, read_as, reading_of, rule_of, with_rule, without_minus, FailsBy, HasKind, HasMatchesOf, fault_of, is_simple_and_free}
+use Rattle.clap.specs.Words.{Accepts, App, Rule, Text, app_of, args_of, found_of, groups_of, matched_of, one_text, read_as, reading_of, rule_of, without_minus, FailsBy, HasKind, HasMatchesOf, fault_of, is_simple_and_free}
 use Rattle.clap.specs.declared.error.Error.{Error}
 use Rattle.clap.specs.Words.{IsParsedFrom, IsSignedIn}
 use Rattle.clap.specs.Built.{NamesNoGroup}
@@ -30,8 +29,7 @@ use Rattle.clap.specs.declared.parser.matches.Found.{Found}
 use Rattle.clap.specs.declared.parser.matches.MatchedArg.{MatchedArg}
 use Rattle.clap.proofs.CallerLemmas.{entry_by_id, same_rules_by_id}
 use Rattle.clap.proofs.WalkLemmas.{both}
-use Rattle.flow_words.specs.Command.{IsBetween, HasNumbers, flow_app, flow_rules, mode_rule, IsReadAs, rule_of_option, with_option}
-use Rattle.flow_words.specs.declared.command.NumberOption.{NumberOption}
+use Rattle.flow_words.specs.Command.{IsBetween, HasNumbers, flow_app, flow_rules, mode_rule, IsReadAs}
 
 -- ---- the value of an entry
 
@@ -233,16 +231,6 @@ module _ (old : Command) (app : app_of old ≡ flow_app) where
       seed = number_at 3 0 GREATEST_SEED (omega arith) refl (one_text (found_of m) (codes "seed")) refl;
       size = number_at 4 1 GREATEST_SIZE (omega arith) refl (one_text (found_of m) (codes "size")) refl;
     }
-
--- ---- the options, as they are added
-
--- the front of the options goes on with the next one
-pub one_option_more : (options : List NumberOption) (i : ℕ) (d : NumberOption) (first old new : App) (rule : Rule) → i < length options →
-    old ≡ fold with_option first (take i options) → new ≡ with_rule old rule → rule ≡ rule_of_option (get_or options i d) →
-    new ≡ fold with_option first (take (i + 1) options)
-one_option_more options i d first old new rule within so_far is rule_is =
-    is ∙ (ap (with_rule old) rule_is ∙ (ap (λ (app : App). with_option app (get_or options i d)) so_far
-    ∙ sym (ap (fold with_option first) (take_more options i d within) ∙ fold-append with_option first (take i options) (get_or options i d ∷ []))))
 
 -- ---- what is read of the words
 

@@ -1,5 +1,5 @@
 -- The request that matches say.
-use Rattle.std.proofs.Common.{◌≡◌, ◌∙◌, ◌≤◌, ◌<◌, ℕ, length, get_or, ap, sym, refl, arith, Option, Some, None, IfSome, codes}
+use Rattle.std.proofs.Common.{◌≡◌, ◌∙◌, ◌≤◌, ℕ, ap, sym, refl, arith, Option, Some, None, IfSome, codes}
 use Rattle.std.specs.Prelude.{Ok, Err, Result, MatchOption}
 use Rattle.std.specs.Str.Parse.{ParsesUnsigned}
 use Rattle.clap.specs.Words.{ReadsOne, Text, first_of, first_value, one_text, rows_of}
@@ -7,9 +7,7 @@ use Rattle.clap.specs.declared.parser.matches.Found.{Found}
 use Rattle.clap.proofs.WalkLemmas.{first_value-rows, one_text-rows}
 use Rattle.flow_words.specs.Command.{IsBetween}
 use Rattle.flow_words.specs.Words.{HasNumber, IsOf, mode_word}
-use Rattle.flow_words.specs.Usage.{modes}
 use Rattle.flow_words.specs.declared.request.Mode.{Mode}
-use Rattle.flow_words.specs.declared.request.Mode.TheVariants.{Drive, Run, Check, Verify, Trace, Gen, Large, Duty, Audit}
 use Rattle.flow_words.specs.declared.request.Request.{Request}
 
 -- ---- one option
@@ -38,18 +36,6 @@ in_bounds f name n least greatest has found =
     (omega (arith, has.2, between.not_less), omega (arith, has.2, between.not_greater))
 
 -- ---- the mode
-
--- a word that is that of none of the modes in their list is that of no mode
-pub of_no_mode : (word : Text) → ((k : ℕ) → k < length modes → ¬ (word ≡ mode_word (get_or modes k Drive))) → (mode : Mode) → ¬ (word ≡ mode_word mode)
-of_no_mode word none Drive is = none 0 (omega arith) is
-of_no_mode word none Run is = none 1 (omega arith) is
-of_no_mode word none Check is = none 2 (omega arith) is
-of_no_mode word none Verify is = none 3 (omega arith) is
-of_no_mode word none Trace is = none 4 (omega arith) is
-of_no_mode word none Gen is = none 5 (omega arith) is
-of_no_mode word none Large is = none 6 (omega arith) is
-of_no_mode word none Duty is = none 7 (omega arith) is
-of_no_mode word none Audit is = none 8 (omega arith) is
 
 -- ---- the request
 

@@ -2,13 +2,12 @@
 use Rattle.std.specs.Prelude.{◌≡◌, ◌≤◌, ℕ, pos, List, [], ◌∷◌, Some, IfSome, codes, true}
 use Rattle.std.specs.Str.Parse.{IsNumeral, digits_value, without_leading_plus}
 use Rattle.flow_model.specs.declared.limits.TheConstants.{GREATEST_SEED, GREATEST_SIZE, MOST_ENTRIES, MOST_WORKERS}
-use Rattle.clap.specs.Words.{App, Rule, Text, fault_of, found_of, matches_of, new_rule, one_text, rows_of, with_rule}
+use Rattle.clap.specs.Words.{App, Rule, Text, fault_of, found_of, matches_of, new_rule, one_text, rows_of}
 use Rattle.clap.specs.Simple.{new_shape}
 use Rattle.clap.specs.declared.builder.action.ArgAction.TheVariants.{Set}
 use Rattle.clap.specs.declared.builder.value_parser.ValueParser.TheVariants.{Signed}
 use Rattle.clap.specs.declared.parser.matches.ArgMatches.{ArgMatches}
 use Rattle.clap.specs.declared.parser.matches.Found.{Found}
-use Rattle.flow_words.specs.declared.command.NumberOption.{NumberOption}
 
 -- the one word that stands for itself
 abbrev pub mode_rule : Rule
@@ -22,13 +21,6 @@ number_rule name least greatest unused = record (new_rule name) {
   parser = Some (Signed (pos least) (pos greatest));
   defaults = unused ∷ [];
 }
-
--- an option of the code as its rule, and a command with that option more
-abbrev pub rule_of_option : NumberOption → Rule
-rule_of_option option = number_rule option.name.now option.least option.greatest option.default.now
-
-abbrev pub with_option : App → NumberOption → App
-with_option app option = with_rule app (rule_of_option option)
 
 -- the options, each with its bounds
 abbrev pub number_rules : List Rule

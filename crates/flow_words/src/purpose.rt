@@ -3,7 +3,7 @@ ghost use Rattle.std.specs.String.{string_bytes};
 ghost use Rattle.clap.specs.Values.{kind_of};
 ghost use Rattle.clap.specs.Words.{HasKind, fault_of, found_of};
 ghost use Rattle.flow_words.specs.Command.{flow_app, HasNumbers, IsReadAs};
-ghost use Rattle.flow_words.specs.Words.{text_asked_by, IsFor, IsNoCall, HasWithin, OneRequest, OnePurpose};
+ghost use Rattle.flow_words.specs.Words.{text_asked_by, IsFor, IsNoCall, HasWithin, OnePurpose};
 
 use crate::command::flow_command;
 use crate::request::{Request, request_in};
@@ -60,14 +60,7 @@ fn text_asked(error: Error) -> Result<Option<Purpose>, AllocError>
     }
 }
 
-/// Words are a call for one request alone.
-fn law_one_request()
-    ensures { OneRequest }
-{}
-
 /// Words are for one purpose alone.
 pub fn law_one_purpose()
     ensures { OnePurpose }
-{
-    law_one_request();
-}
+{}

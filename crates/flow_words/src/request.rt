@@ -28,38 +28,6 @@ pub enum Mode {
     Audit,
 }
 
-/// All modes.
-pub(crate) const MODES: [Mode; 9] = [
-    Mode::Drive,
-    Mode::Run,
-    Mode::Check,
-    Mode::Verify,
-    Mode::Trace,
-    Mode::Gen,
-    Mode::Large,
-    Mode::Duty,
-    Mode::Audit,
-];
-
-impl Mode {
-    /// The word that calls for the mode.
-    pub fn word(self) -> &'static str
-        ensures { result.now ≡ mode_word self }
-    {
-        match self {
-            Mode::Drive => "drive",
-            Mode::Run => "run",
-            Mode::Check => "check",
-            Mode::Verify => "verify",
-            Mode::Trace => "trace",
-            Mode::Gen => "gen",
-            Mode::Large => "large",
-            Mode::Duty => "duty",
-            Mode::Audit => "audit",
-        }
-    }
-}
-
 /// A mode and its numbers. A mode uses the numbers that concern it.
 #[derive(Clone, Copy)]
 pub struct Request {
@@ -81,17 +49,12 @@ pub(crate) fn request_in(matches: &ArgMatches<'_>) -> Option<Request>
         (IsOf (rows_of (found_of matches.now))) }
     ensures within { IfSome result IsWithin }
 {
-    let mode = mode_called(matches.get_str("mode")?)?;
-    let steps = number_in(matches, "steps")?;
-    let workers = number_in(matches, "workers")?;
-    let seed = number_in(matches, "seed")?;
-    let size = number_in(matches, "size")?;
     Some(Request {
-        mode,
-        steps,
-        workers,
-        seed,
-        size,
+        mode: mode_called(matches.get_str("mode")?)?,
+        steps: number_in(matches, "steps")?,
+        workers: number_in(matches, "workers")?,
+        seed: number_in(matches, "seed")?,
+        size: number_in(matches, "size")?,
     })
 }
 
@@ -99,12 +62,18 @@ pub(crate) fn request_in(matches: &ArgMatches<'_>) -> Option<Request>
 fn mode_called(word: &str) -> Option<Mode>
     ensures { MatchOption result ((mode : Mode) → ¬ (word.now ≡ mode_word mode)) (λ mode. word.now ≡ mode_word mode) }
 {
-    for mode in MODES {
-        if mode.word() == word {
-            return Some(mode);
-        }
-    }
-    None
+    Some(match word {
+        "drive" => Mode::Drive,
+        "run" => Mode::Run,
+        "check" => Mode::Check,
+        "verify" => Mode::Verify,
+        "trace" => Mode::Trace,
+        "gen" => Mode::Gen,
+        "large" => Mode::Large,
+        "duty" => Mode::Duty,
+        "audit" => Mode::Audit,
+        _ => return None,
+    })
 }
 
 /// The number that was found for an option.
