@@ -123,7 +123,7 @@ CHANGES = [
         "Where its second part is a text of its own, `flow_record` reads it, and `flow_front/specs/Refusal.antt` has its causes.",
         "The text of what it finds is printed in `flow_findings`, or in `flow_reply` where it is of a run.",
         "`flow_cli/specs/Output.antt` says of each mode whether it reads, asks a gate and starts threads. A mode with threads stands in "
-        "`find_by_workers` of `flow_cli/src/call.rt` and not in `find`. Only `flow_crew` and `flow_audit` start threads.",
+        "`find` of `Crew` in `flow_cli/src/call.rt`, any other in the `find` above it. Only `flow_crew` and `flow_audit` start threads.",
         "Rows of a mode stand in a file of their own, which `crates/test_cases/args` names. `bench/hostile.py` calls every mode.",
     ], [Thing("a mode that reads a list of leaves", r"\bTrace\b|\btrace\b|trace_text|IsTraced", r"`?flow trace\b|\|trace\||`trace`",
               only={"flow_words", "flow_cli", "flow_cli_laws", "flow"}),

@@ -1,7 +1,7 @@
 -- What is written of a source, and what becomes of it.
 use Rattle.std.proofs.Common.{◌≡◌, ◌≢◌, ◌<◌, ◌≤◌, ℕ, Bool, List, [], ◌∷◌, length, Option, None, Some, Result, Ok, Err, sym, subst, inl, inr, arith, refl, ◌+◌, ◌∙◌, ap}
 use Rattle.std.specs.declared.alloc.AllocError.{AllocError}
-use Rattle.std.specs.Prelude.{◌↔◌, IfOk}
+use Rattle.std.specs.Prelude.{◌↔◌, IfOk, IfErr}
 use Rattle.flow_model.specs.declared.history.Call.{Call}
 use Rattle.flow_model.specs.declared.history.Outcome.{Outcome}
 use Rattle.flow_model.specs.Verdict as model
@@ -22,7 +22,7 @@ use Rattle.flow_findings.specs.declared.refused.Refused.{Refused}
 use Rattle.flow_findings.specs.declared.refused.Refused.TheVariants as refused
 use Rattle.flow_findings.specs.Refusing as refusing
 use Rattle.flow_words.specs.declared.request.Mode.{Mode}
-use Rattle.flow_words.specs.declared.request.Mode.TheVariants.{Gen, Large}
+use Rattle.flow_words.specs.declared.request.Mode.TheVariants.{Run, Gen, Large, Audit}
 use Rattle.flow_words.specs.declared.request.Request.{Request}
 use Rattle.flow_front.specs.declared.output.Output.{Output}
 use Rattle.flow_front.specs.declared.status.Status.{Status}
@@ -36,7 +36,7 @@ use Rattle.flow_front.specs.Input.{IsInputOf, IsReadWhole, LeavesSource}
 use Rattle.flow_reply.specs.Verdict.{ended}
 use Rattle.flow_cli.specs.Finding.{Finding, driven, ran, traced, audited, verified, tried, summarized, status_of_checked, status_of_found, finding_status, came_status, IsFound, Answers}
 use Rattle.flow_cli.specs.Large.{RunsGenerated}
-use Rattle.flow_cli.specs.Output.{Reads, Finds, IsTold, WritesOf, WritesAs, IsWhole, IsOfInput, IsOver, IsTakenFrom, IsOutcome, IsText, IsSummarized}
+use Rattle.flow_cli.specs.Output.{Reads, StartsNoThreads, Finds, IsTold, TellsFound, WritesOf, WritesAs, IsWhole, IsOfInput, IsOver, IsTakenFrom, IsOutcome, IsText, IsSummarized}
 use Rattle.flow_cli.proofs.Refusals.{finds_later}
 
 -- ---- statuses of what is found
@@ -113,11 +113,11 @@ came_of_input mode gives request said text (Err why) h = (finds_later mode gives
 
 -- what is found in what is said is told
 module _ (mode : Mode) (gives : Call → Outcome → Bool) (request : Request) (said : Said) (text : List ℕ) where
-  pub found_told : (output : Output) → Answers (Finds mode gives request said text) (Ok output) →
+  found_told : (output : Output) → Answers (Finds mode gives request said text) (Ok output) →
       IsTold (Finds mode gives request said text) said output.status output.text.items
   found_told output (found, may, is) = (Ok found, may, record { status_is = is.status_is; output_is = is.output_is })
 
-  pub stop_told : (why : Stop) (result : Result Output AllocError) → Answers (Finds mode gives request said text) (Err why) →
+  stop_told : (why : Stop) (result : Result Output AllocError) → Answers (Finds mode gives request said text) (Err why) →
       IfOk result (λ output. TellsStop (event_names said.decls) why output.status output.text.items) →
       IfOk result (λ output. IsTold (Finds mode gives request said text) said output.status output.text.items)
   stop_told (stop.Refused why) (Ok output) may told = (Err why, may, record { status_is = told.status_is; output_is = told.output_is })
@@ -125,9 +125,20 @@ module _ (mode : Mode) (gives : Call → Outcome → Bool) (request : Request) (
   stop_told why (Err e) may told = tt
 
   -- a refusal of it can be
-  pub can_be_told : (why : Stop) → Answers (Finds mode gives request said text) (Err why) → IsStop (refusing.IsTold (event_names said.decls)) why
+  can_be_told : (why : Stop) → Answers (Finds mode gives request said text) (Err why) → IsStop (refusing.IsTold (event_names said.decls)) why
   can_be_told (stop.Refused why) may = (finds_later mode gives request said text why may).0
   can_be_told stop.NoMemory may = tt
+
+  pub all_can_be_told : (found : Result Output Stop) → Answers (Finds mode gives request said text) found → IfErr found (IsStop (refusing.IsTold (event_names said.decls)))
+  all_can_be_told (Ok output) may = tt
+  all_can_be_told (Err why) may = can_be_told why may
+
+  pub all_told : (found : Result Output Stop) (result : Result Output AllocError) → Answers (Finds mode gives request said text) found →
+      IfOk result (TellsFound (event_names said.decls) found) → IfOk result (λ output. IsTold (Finds mode gives request said text) said output.status output.text.items)
+  all_told found (Err e) may told = tt
+  all_told (Ok output) (Ok written) may is =
+      subst (λ (o : Output). IsTold (Finds mode gives request said text) said o.status o.text.items) (sym is) (found_told output may)
+  all_told (Err why) (Ok written) may told = stop_told why (Ok written) may told
 
 module _ (mode : Mode) (gives : Call → Outcome → Bool) (request : Request) (left left' : Option (List ℕ)) (faults faults' : ℕ) (reads : Reads mode) where
   abbrev Written : Status → List ℕ → Type 0
@@ -214,14 +225,32 @@ module _ (mode : Mode) (gives : Call → Outcome → Bool) (request : Request) (
   stopped_read T stop.NoMemory s output cause fault leaves told = absurd told
 
 -- a run of a generated workflow
-pub summarized_outputs : (gives : Call → Outcome → Bool) (request : Request) (steps workers : ℕ) (left : Option (List ℕ)) (faults : ℕ) (result : Result Output AllocError) →
-    steps ≡ request.steps → workers ≡ request.workers → IfOk result (IsFound (RunsGenerated gives request.seed request.size steps workers)) →
+pub summarized_outputs : (gives : Call → Outcome → Bool) (request : Request) (left : Option (List ℕ)) (faults : ℕ) (result : Result Output AllocError) →
+    IfOk result (IsFound (RunsGenerated gives request.seed request.size request.steps request.workers)) →
     IfOk result (λ output. IsOutcome (IsSummarized gives request) ⊥ left left faults faults output.status output.text.items)
-summarized_outputs gives request steps workers left faults (Err e) same_steps same_workers found = tt
-summarized_outputs gives request steps workers left faults (Ok output) same_steps same_workers (found, runs, is) =
-    unread_outcome (IsSummarized gives request) left faults output.status output.text.items (subst IsOfInput (sym is.status_is) (of_finding found)) (
-      Ok found,
-      subst (λ (n : ℕ). RunsGenerated gives request.seed request.size request.steps n (Ok found)) same_workers
-          (subst (λ (n : ℕ). RunsGenerated gives request.seed request.size n workers (Ok found)) same_steps runs),
-      record { status_is = is.status_is; output_is = is.output_is },
-    )
+summarized_outputs gives request left faults (Err e) found = tt
+summarized_outputs gives request left faults (Ok output) (found, runs, is) =
+    unread_outcome (IsSummarized gives request) left faults output.status output.text.items (subst IsOfInput (sym is.status_is) (of_finding found))
+    (Ok found, runs, record { status_is = is.status_is; output_is = is.output_is })
+
+-- ---- modes
+
+-- the one mode beside `run` that reads and starts threads
+pub audit_left : (mode : Mode) → ¬ (StartsNoThreads mode) → Reads mode → mode ≢ Run → mode ≡ Audit
+audit_left Run threads reads other = absurd (other refl)
+audit_left Audit threads reads other = refl
+audit_left Large threads reads other = absurd reads
+audit_left mode threads reads other = absurd (threads tt)
+
+-- the modes that start no threads
+pub alone_left : (mode : Mode) → mode ≢ Run → mode ≢ Audit → mode ≢ Large → StartsNoThreads mode
+alone_left Run run audit large = absurd (run refl)
+alone_left Audit run audit large = absurd (audit refl)
+alone_left Large run audit large = absurd (large refl)
+alone_left mode run audit large = tt
+
+-- all of them read but `gen`
+pub read_alone : (mode : Mode) → StartsNoThreads mode → mode ≢ Gen → Reads mode
+read_alone Gen alone other = absurd (other refl)
+read_alone Large alone other = absurd alone
+read_alone mode alone other = tt

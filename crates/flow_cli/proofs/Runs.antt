@@ -1,5 +1,5 @@
 -- Runs by workers that came to an end.
-use Rattle.std.proofs.Common.{◌≡◌, ◌≤◌, ℕ, Bool, List, length, ◌++◌, codes, Result, refl, ap, ◌∙◌, subst}
+use Rattle.std.proofs.Common.{◌≡◌, ◌≤◌, ℕ, Bool, List, length, ◌++◌, codes, refl, ap, ◌∙◌, subst}
 use Rattle.serde_json.specs.Written.{compact_text}
 use Rattle.flow_model.specs.declared.history.Call.{Call}
 use Rattle.flow_model.specs.declared.history.Entry.{Entry}
@@ -7,10 +7,6 @@ use Rattle.flow_model.specs.declared.history.Outcome.{Outcome}
 use Rattle.flow_model.specs.Lists.{Each}
 use Rattle.flow_model.specs.Run.{Waits}
 use Rattle.flow_model.specs.Verdict as model
-use Rattle.flow_form.specs.Script.{Said}
-use Rattle.flow_words.specs.declared.request.Request.{Request}
-use Rattle.flow_front.specs.declared.output.Output.{Output}
-use Rattle.flow_front.specs.declared.stop.Stop.{Stop}
 use Rattle.flow_workflow.specs.Definition.{Definition, schema_of}
 use Rattle.flow_core.specs.Run.{Run, schema, now}
 use Rattle.flow_core.specs.Lawful.{IsLawful}
@@ -27,9 +23,9 @@ use Rattle.flow_reply.specs.declared.verdict.Verdict.{Verdict}
 use Rattle.flow_reply.specs.Conclusion.{Means, verdict_text}
 use Rattle.flow_reply.specs.Summary.{summary_object, IsSummary}
 use Rattle.flow_reply.proofs.OneReply.{one_words}
-use Rattle.flow_cli.specs.Finding.{summary_line, Answers}
+use Rattle.flow_cli.specs.Finding.{summary_line}
 use Rattle.flow_cli.specs.Large.{summary_of, IsSummaryOf}
-use Rattle.flow_cli.specs.Run.{verdict_of, IsRunOf, HasRun, RunsSaid}
+use Rattle.flow_cli.specs.Run.{verdict_of, IsRunOf, HasRun}
 
 -- the verdict that an end is
 meant_by : (r : Run) (e : End) → IsEnd r e →
@@ -77,10 +73,3 @@ summarizes gives w seed size steps workers c last verdict meant counts summary c
   means = means;
   summary_is = is ∙ ap (λ (n : Counts). summary_of n seed size last verdict) counted;
 }
-
--- what the crew of a request finds is what the request asks for
-pub as_asked : (gives : Call → Outcome → Bool) (request : Request) (said : Said) (steps workers : ℕ) (result : Result Output Stop) → steps ≡ request.steps →
-    workers ≡ request.workers → Answers (RunsSaid gives said steps workers) result → Answers (RunsSaid gives said request.steps request.workers) result
-as_asked gives request said steps workers result same_steps same_workers answers =
-    subst (λ (n : ℕ). Answers (RunsSaid gives said n request.workers) result) same_steps
-    (subst (λ (n : ℕ). Answers (RunsSaid gives said steps n) result) same_workers answers)

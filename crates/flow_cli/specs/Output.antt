@@ -1,9 +1,10 @@
 -- What a call writes, and with which status it ends.
-use Rattle.std.specs.Prelude.{◌≡◌, ◌≢◌, ◌+◌, ◌<◌, ◌≤◌, ◌↔◌, ℕ, Bool, List, [], drop, length, Option, Some, Result, Ok, IfSome, ◌⊎◌}
+use Rattle.std.specs.Prelude.{◌≡◌, ◌≢◌, ◌+◌, ◌<◌, ◌≤◌, ◌↔◌, ℕ, Bool, List, [], drop, length, Option, Some, Result, Ok, Err, IfSome, ◌⊎◌}
 use Rattle.flow_model.specs.declared.limits.TheConstants.{GREATEST_INPUT}
 use Rattle.flow_model.specs.declared.history.Call.{Call}
 use Rattle.flow_model.specs.declared.history.Outcome.{Outcome}
 use Rattle.flow_form.specs.Script.{Said}
+use Rattle.flow_form.specs.Script as script
 use Rattle.flow_form.specs.Names.{event_names}
 use Rattle.flow_findings.specs.declared.refused.Refused.{Refused}
 use Rattle.flow_findings.specs.declared.refused.Refused.TheVariants as refused
@@ -14,9 +15,13 @@ use Rattle.flow_words.specs.declared.purpose.Purpose.{Purpose}
 use Rattle.flow_words.specs.declared.purpose.Purpose.TheVariants.{Answer, Help, Version}
 use Rattle.flow_words.specs.declared.help.TheConstants.{HELP, VERSION}
 use Rattle.flow_words.specs.Words.{IsFor, IsNoCall}
+use Rattle.flow_front.specs.declared.input.Input.{Input}
+use Rattle.flow_front.specs.declared.output.Output.{Output}
 use Rattle.flow_front.specs.declared.status.Status.{Status}
 use Rattle.flow_front.specs.declared.status.Status.TheVariants as status
+use Rattle.flow_front.specs.declared.stop.Stop.{Stop}
 use Rattle.flow_front.specs.Status.{Tells}
+use Rattle.flow_front.specs.Stop.{TellsStop}
 use Rattle.flow_front.specs.Refusal.{the_source, IsCause}
 use Rattle.flow_front.specs.Input.{IsInputOf}
 use Rattle.flow_cli.specs.Finding.{Finding, generated, IsWritten}
@@ -72,9 +77,18 @@ Finds Audit gives request s text came = AuditsText s text came
 Finds Gen gives request s text came = ⊥
 Finds Large gives request s text came = ⊥
 
+-- what a request finds in an input
+abbrev pub FindsIn : (Call → Outcome → Bool) → Request → Input → Result Finding Refused → Type 0
+FindsIn gives request input came = Finds request.mode gives request (script.said input.script) input.second.items came
+
 -- something that may come of what is said is written
 abbrev pub IsTold : (Result Finding Refused → Type 0) → Said → Status → List ℕ → Type 0
 IsTold P s status output = (came : Result Finding Refused) × P came × IsWritten (event_names s.decls) came status output
+
+-- the output is the one that was found, or says why nothing was
+abbrev pub TellsFound : List (List ℕ) → Result Output Stop → Output → Type 0
+TellsFound events (Ok found) output = output ≡ found
+TellsFound events (Err stop) output = TellsStop events stop output.status output.text.items
 
 -- the source is refused, and the output says why
 pub record IsNotRead (source : Option (List ℕ)) (status : Status) (output : List ℕ) : Type 0 where
@@ -161,6 +175,16 @@ pub record IsOutcome (IsWritten : Status → List ℕ → Type 0) (reads : Type 
   pub fault : (ending ≡ status.ReadFault) ↔ (faults < faults')
   pub end : reads → IsOver ending → IfSome left (λ _. left' ≡ Some [])
   pub refused : reads → ending ≡ status.Input → IsTakenFrom left left'
+
+-- what is written of a source, by what it tells of its bytes and its faults, for a request and for a purpose
+module _ {S : Type 0} (left : S → Option (List ℕ)) (faults : S → ℕ) (gives : Call → Outcome → Bool) where
+  abbrev pub IsAnswer : Request → S → S → Output → Type 0
+  IsAnswer request source source' output = IsOutcome (WritesAs request.mode gives request (left source)) (Reads request.mode)
+      (left source) (left source') (faults source) (faults source') output.status output.text.items
+
+  abbrev pub IsServed : Purpose → S → S → Output → Type 0
+  IsServed purpose source source' output = IsOutcome (WritesFor purpose gives (left source)) (ReadsFor purpose)
+      (left source) (left source') (faults source) (faults source') output.status output.text.items
 
 -- A call with these words could have ended so, by what became of the source: a failed read is told, and nothing else as one; an answer stands
 -- on the end of the source where it is to be read; a refusal comes once it is read, or too long; and wrong words leave it the same.

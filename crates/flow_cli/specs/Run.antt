@@ -1,6 +1,5 @@
 -- What `run` finds.
 use Rattle.std.specs.Prelude.{◌≡◌, ◌≤◌, ℕ, Bool, Result, Ok}
-use Rattle.flow_model.specs.declared.limits.TheConstants.{MOST_WORKERS}
 use Rattle.flow_model.specs.declared.history.Call.{Call}
 use Rattle.flow_model.specs.declared.history.Entry.{Entry}
 use Rattle.flow_model.specs.declared.history.Outcome.{Outcome}
@@ -18,17 +17,7 @@ use Rattle.flow_reply.specs.declared.verdict.Verdict.{Verdict}
 use Rattle.flow_reply.specs.declared.verdict.Verdict.TheVariants as verdict
 use Rattle.flow_reply.specs.Conclusion.{Means}
 use Rattle.flow_front.specs.Stages.{Prepares}
-use Rattle.flow_cli.specs.Drive.{IsStepCount}
 use Rattle.flow_cli.specs.Finding.{Finding, ran}
-
--- so many workers can run a workflow
-abbrev pub IsWorkerCount : ℕ → Type 0
-IsWorkerCount workers = (1 ≤ workers) × (workers ≤ MOST_WORKERS)
-
--- how a run is made: in so many steps at most, by so many workers
-pub record IsCrew (steps workers : ℕ) : Type 0 where
-  pub steps_counted : IsStepCount steps
-  pub workers_counted : IsWorkerCount workers
 
 -- an end as a verdict
 abbrev pub verdict_of : End → Verdict

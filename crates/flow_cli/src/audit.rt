@@ -6,25 +6,17 @@ ghost use Rattle.flow_workflow.specs.Definition.{schema_of};
 ghost use Rattle.flow_plan.specs.Compilation.{IsCompiled};
 ghost use Rattle.flow_audit.specs.Cuts.{AreCuts};
 ghost use Rattle.flow_cli.specs.Finding.{status_of_found, audited, IsOutputOf, IsFound, Answers};
-ghost use Rattle.flow_cli.specs.Run.{IsWorkerCount};
 ghost use Rattle.flow_cli.specs.Audit.{FindsOfJournals, AuditsSaid, AuditsText};
 
+use crate::run::Crew;
 use flow_audit::{Finding, MOST_JOURNALS, audit_traces, journals};
 use flow_findings::print_audit;
 use flow_form::Script;
 use flow_front::{Output, Prepared, Refused, Status, Stop, prepare};
+use flow_gate::Gate;
 use flow_trace::Checked;
 use std::alloc::{AllocError, Global};
 use std::thread::Threads;
-
-/// The workers that check journals, each in a thread of the runtime.
-#[derive(Drop)]
-pub(crate) struct Auditors<'a, R> {
-    pub(crate) rt: &'a R,
-    /// How many they are.
-    pub(crate) workers: u32,
-    ghost counted: { IsWorkerCount workers },
-}
 
 /// The status of what is found of journals.
 fn status_of_found(found: &[Finding]) -> Status
@@ -48,7 +40,7 @@ fn tell_found(alloc: Global, found: &[Finding]) -> Result<Output, AllocError>
     })
 }
 
-impl<'a, R: Threads + Sync> Auditors<'a, R> {
+impl<'a, R: Threads + Sync, G: Gate> Crew<'a, R, G> {
     /// Checks the journals of a text, which is cut so, against a compiled workflow.
     fn audit(
         &self,
@@ -68,7 +60,7 @@ impl<'a, R: Threads + Sync> Auditors<'a, R> {
             &prepared.compiled,
             text,
             cuts,
-            self.workers,
+            self.request.workers,
         )?;
         tell_found(alloc, &found)
     }

@@ -1,4 +1,4 @@
-ghost use Rattle.std.specs.Prelude.{◌≡◌, ◌<◌, ◌-◌, ◌≤◌, ◌^◌, ◌↔◌, ◌⊎◌, ℕ, Bool, List, [], length, map, Some, IfOk, IfSome};
+ghost use Rattle.std.specs.Prelude.{◌≡◌, ◌<◌, ◌-◌, ◌≤◌, ◌^◌, ◌↔◌, ◌⊎◌, ℕ, Bool, List, [], length, map, Some, IfOk, IfErr, IfSome};
 ghost use Rattle.std.specs.String.{string_bytes};
 ghost use Rattle.std.specs.Io.KnownBytes.{Appends};
 ghost use Rattle.flow_io.specs.Sink.{AppendsPart};
@@ -12,15 +12,18 @@ ghost use Rattle.flow_words.specs.declared.purpose.Purpose.{Purpose};
 ghost use Rattle.flow_words.specs.Words.{HasWithin, IsFor, IsWithin};
 ghost use Rattle.flow_front.specs.declared.status.Status.{Status};
 ghost use Rattle.flow_cli.specs.Finding.{Answers};
-ghost use Rattle.flow_cli.specs.Output.{Reads, ReadsFor, StartsNoThreads, Finds, IsTold, IsText, IsGenerated, WritesAs, WritesFor, Writes, IsWhole, IsOver, IsTakenFrom, IsOutcome, EndsWith};
+ghost use Rattle.flow_findings.specs.Refusing.{IsTold};
+ghost use Rattle.flow_form.specs.Names.{event_names};
+ghost use Rattle.flow_front.specs.Stop.{IsStop};
+ghost use Rattle.flow_cli.specs.Output.{Reads, ReadsFor, StartsNoThreads, FindsIn, TellsFound, IsText, IsGenerated, IsAnswer, IsServed, WritesFor, Writes, IsWhole, IsOver, IsTakenFrom, IsOutcome, EndsWith};
 
-use crate::audit::Auditors;
 use crate::check::check;
 use crate::drive::drive_text;
 use crate::duty::duty_text;
 use crate::run::Crew;
 use crate::trace::trace_text;
 use crate::verify::verify_text;
+use flow_form::Script;
 use flow_front::{Input, Output, Refused, Status, Stop, read_input, refuse, tell};
 use flow_gate::Gate;
 use flow_gen::generate;
@@ -30,35 +33,6 @@ use std::alloc::{AllocError, Global};
 use std::sync::Wait;
 use std::thread::Threads;
 
-/// The workers of a request, and the gate that performs their tasks.
-fn crew_of<'a, R: Threads + Wait + Sync, G: Gate>(
-    rt: &'a R,
-    request: Request,
-    gate: &'a G,
-) -> Crew<'a, R, G>
-    requires { IsWithin request }
-    ensures steps { result.steps ≡ request.steps }
-    ensures workers { result.workers ≡ request.workers }
-{
-    Crew {
-        rt,
-        gate,
-        steps: request.steps,
-        workers: request.workers,
-    }
-}
-
-/// The workers of a request that check journals.
-fn auditors_of<R: Threads>(rt: &R, request: Request) -> Auditors<'_, R>
-    requires { IsWithin request }
-    ensures { result.workers ≡ request.workers }
-{
-    Auditors {
-        rt,
-        workers: request.workers,
-    }
-}
-
 /// What the mode of a request, which reads and starts no threads, finds in an input.
 fn find(alloc: Global, request: Request, input: &Input) -> Result<Output, Stop>
     requires within { IsWithin request }
@@ -66,8 +40,7 @@ fn find(alloc: Global, request: Request, input: &Input) -> Result<Output, Stop>
     requires alone { StartsNoThreads request.mode }
     requires closed { IsClosed (said input.now.script) }
     requires short { length input.now.second.items ≤ GREATEST_INPUT }
-    ensures { (gives : Call → Outcome → Bool) →
-        Answers (Finds request.mode gives request (said input.now.script) input.now.second.items) result }
+    ensures { (gives : Call → Outcome → Bool) → Answers (FindsIn gives request input.now) result }
 {
     let script = &input.script;
     match request.mode {
@@ -80,20 +53,52 @@ fn find(alloc: Global, request: Request, input: &Input) -> Result<Output, Stop>
     }
 }
 
-/// What is written of an input, where no threads are started.
-fn answer_input(alloc: Global, request: Request, input: &Input) -> Result<Output, AllocError>
-    requires within { IsWithin request }
-    requires reads { Reads request.mode }
-    requires alone { StartsNoThreads request.mode }
-    requires closed { IsClosed (said input.now.script) }
-    requires short { length input.now.second.items ≤ GREATEST_INPUT }
-    ensures { (gives : Call → Outcome → Bool) →
-        IfOk result (λ output. IsTold (Finds request.mode gives request (said input.now.script) input.now.second.items)
-        (said input.now.script) output.status output.text.items) }
+impl<'a, R: Threads + Wait + Sync, G: Gate> Crew<'a, R, G> {
+    /// What the mode of the request, which reads and starts threads, finds in an input.
+    fn find(&self, alloc: Global, input: &Input) -> Result<Output, Stop>
+        requires reads { Reads self.now.request.mode }
+        requires threads { ¬ (StartsNoThreads self.now.request.mode) }
+        requires closed { IsClosed (said input.now.script) }
+        ensures { Answers (FindsIn G.gives self.now.request input.now) result }
+    {
+        match self.request.mode {
+            Mode::Run => self.run_script(alloc, &input.script),
+            // no other mode reads and starts threads
+            _ => self.audit_text(alloc, &input.script, &input.second),
+        }
+    }
+
+    /// What is written of what the source gives.
+    fn answer_source<S: Source>(&self, alloc: Global, source: &mut S) -> Result<Output, AllocError>
+        requires reads { Reads self.now.request.mode }
+        requires threads { ¬ (StartsNoThreads self.now.request.mode) }
+        requires source_counts { S.faults source.old < 2 ^ 64 - 1 }
+        ensures { IfOk result (IsAnswer S.left S.faults G.gives self.now.request source.old source.new) }
+    {
+        match read_input(alloc, source) {
+            Ok(input) => {
+                let found = self.find(alloc, &input);
+                let output = tell_found(alloc, found, &input.script);
+                drop(input);
+                output
+            }
+            Err(stop) => refuse(alloc, stop, None),
+        }
+    }
+}
+
+/// What is written of what was found in an input, or of why nothing was.
+fn tell_found(
+    alloc: Global,
+    found: Result<Output, Stop>,
+    script: &Script,
+) -> Result<Output, AllocError>
+    requires { IfErr found (IsStop (IsTold (event_names (said script.now).decls))) }
+    ensures { IfOk result (TellsFound (event_names (said script.now).decls) found) }
 {
-    match find(alloc, request, input) {
+    match found {
         Ok(output) => Ok(output),
-        Err(stop) => refuse(alloc, stop, Some(&input.script)),
+        Err(stop) => refuse(alloc, stop, Some(script)),
     }
 }
 
@@ -107,13 +112,12 @@ fn answer_source<S: Source>(
     requires reads { Reads request.mode }
     requires alone { StartsNoThreads request.mode }
     requires source_counts { S.faults source.old < 2 ^ 64 - 1 }
-    ensures { (gives : Call → Outcome → Bool) →
-        IfOk result (λ output. IsOutcome (WritesAs request.mode gives request (S.left source.old)) (Reads request.mode)
-        (S.left source.old) (S.left source.new) (S.faults source.old) (S.faults source.new) output.status output.text.items) }
+    ensures { (gives : Call → Outcome → Bool) → IfOk result (IsAnswer S.left S.faults gives request source.old source.new) }
 {
     match read_input(alloc, source) {
         Ok(input) => {
-            let output = answer_input(alloc, request, &input);
+            let found = find(alloc, request, &input);
+            let output = tell_found(alloc, found, &input.script);
             drop(input);
             output
         }
@@ -142,91 +146,12 @@ pub fn answer_alone<S: Source>(
     requires within { IsWithin request }
     requires alone { StartsNoThreads request.mode }
     requires source_counts { S.faults source.old < 2 ^ 64 - 1 }
-    ensures outcome { (gives : Call → Outcome → Bool) →
-        IfOk result (λ output. IsOutcome (WritesAs request.mode gives request (S.left source.old)) (Reads request.mode)
-        (S.left source.old) (S.left source.new) (S.faults source.old) (S.faults source.new) output.status output.text.items) }
+    ensures outcome { (gives : Call → Outcome → Bool) → IfOk result (IsAnswer S.left S.faults gives request source.old source.new) }
     ensures unread { ¬ (Reads request.mode) → source.new ≡ source.old }
 {
     match request.mode {
         Mode::Gen => write_generated(alloc, request),
-        Mode::Drive | Mode::Check | Mode::Verify | Mode::Trace | Mode::Duty => answer_source(
-            alloc, request, source,
-        ),
-        Mode::Run | Mode::Large | Mode::Audit => unreachable!(),
-    }
-}
-
-/// What the mode of a request, which reads and starts threads, finds in an input.
-fn find_by_workers<R: Threads + Wait + Sync, G: Gate>(
-    rt: &R,
-    alloc: Global,
-    request: Request,
-    input: &Input,
-    gate: &G,
-) -> Result<Output, Stop>
-    requires within { IsWithin request }
-    requires reads { Reads request.mode }
-    requires workers { ¬ (StartsNoThreads request.mode) }
-    requires closed { IsClosed (said input.now.script) }
-    ensures { Answers (Finds request.mode G.gives request (said input.now.script) input.now.second.items) result }
-{
-    let script = &input.script;
-    match request.mode {
-        Mode::Run => crew_of(rt, request, gate).run_script(alloc, script),
-        Mode::Audit => auditors_of(rt, request).audit_text(alloc, script, &input.second),
-        Mode::Drive
-        | Mode::Check
-        | Mode::Verify
-        | Mode::Trace
-        | Mode::Gen
-        | Mode::Large
-        | Mode::Duty => unreachable!(),
-    }
-}
-
-/// What is written of an input, where threads are started.
-fn answer_input_by_workers<R: Threads + Wait + Sync, G: Gate>(
-    rt: &R,
-    alloc: Global,
-    request: Request,
-    input: &Input,
-    gate: &G,
-) -> Result<Output, AllocError>
-    requires within { IsWithin request }
-    requires reads { Reads request.mode }
-    requires workers { ¬ (StartsNoThreads request.mode) }
-    requires closed { IsClosed (said input.now.script) }
-    ensures { IfOk result (λ output. IsTold (Finds request.mode G.gives request (said input.now.script) input.now.second.items)
-        (said input.now.script) output.status output.text.items) }
-{
-    match find_by_workers(rt, alloc, request, input, gate) {
-        Ok(report) => Ok(report),
-        Err(stop) => refuse(alloc, stop, Some(&input.script)),
-    }
-}
-
-/// What is written of what the source gives, where threads are started.
-fn answer_source_by_workers<R: Threads + Wait + Sync, S: Source, G: Gate>(
-    rt: &R,
-    alloc: Global,
-    request: Request,
-    source: &mut S,
-    gate: &G,
-) -> Result<Output, AllocError>
-    requires within { IsWithin request }
-    requires reads { Reads request.mode }
-    requires workers { ¬ (StartsNoThreads request.mode) }
-    requires source_counts { S.faults source.old < 2 ^ 64 - 1 }
-    ensures { IfOk result (λ output. IsOutcome (WritesAs request.mode G.gives request (S.left source.old)) (Reads request.mode)
-        (S.left source.old) (S.left source.new) (S.faults source.old) (S.faults source.new) output.status output.text.items) }
-{
-    match read_input(alloc, source) {
-        Ok(input) => {
-            let output = answer_input_by_workers(rt, alloc, request, &input, gate);
-            drop(input);
-            output
-        }
-        Err(stop) => refuse(alloc, stop, None),
+        _ => answer_source(alloc, request, source),
     }
 }
 
@@ -240,16 +165,13 @@ fn answer<R: Threads + Wait + Sync, S: Source, G: Gate>(
 ) -> Result<Output, AllocError>
     requires within { IsWithin request }
     requires source_counts { S.faults source.old < 2 ^ 64 - 1 }
-    ensures outcome { IfOk result (λ output. IsOutcome (WritesAs request.mode G.gives request (S.left source.old)) (Reads request.mode)
-        (S.left source.old) (S.left source.new) (S.faults source.old) (S.faults source.new) output.status output.text.items) }
+    ensures outcome { IfOk result (IsAnswer S.left S.faults G.gives request source.old source.new) }
     ensures unread { ¬ (Reads request.mode) → source.new ≡ source.old }
 {
     match request.mode {
-        Mode::Drive | Mode::Check | Mode::Verify | Mode::Trace | Mode::Gen | Mode::Duty => {
-            answer_alone(alloc, request, source)
-        }
-        Mode::Run | Mode::Audit => answer_source_by_workers(rt, alloc, request, source, gate),
-        Mode::Large => crew_of(rt, request, gate).run_generated(alloc, request.seed, request.size),
+        Mode::Run | Mode::Audit => Crew { rt, gate, request }.answer_source(alloc, source),
+        Mode::Large => Crew { rt, gate, request }.run_generated(alloc),
+        _ => answer_alone(alloc, request, source),
     }
 }
 
@@ -273,8 +195,7 @@ fn serve<R: Threads + Wait + Sync, S: Source, G: Gate>(
 ) -> Result<Output, AllocError>
     requires within { HasWithin purpose }
     requires source_counts { S.faults source.old < 2 ^ 64 - 1 }
-    ensures outcome { IfOk result (λ output. IsOutcome (WritesFor purpose G.gives (S.left source.old)) (ReadsFor purpose)
-        (S.left source.old) (S.left source.new) (S.faults source.old) (S.faults source.new) output.status output.text.items) }
+    ensures outcome { IfOk result (IsServed S.left S.faults G.gives purpose source.old source.new) }
     ensures unread { ¬ (ReadsFor purpose) → source.new ≡ source.old }
 {
     match purpose {
@@ -294,13 +215,8 @@ fn respond<R: Threads + Wait + Sync, S: Source, G: Gate>(
 ) -> Result<Output, AllocError>
     requires { S.faults source.old < 2 ^ 64 - 1 }
     ensures writes { IfOk result (λ output. Writes G.gives (map (λ word. string_bytes word) words.now) (S.left source.old) output.status output.text.items) }
-    ensures whole { IfOk result (λ output. IsWhole output.status) }
-    ensures words { IfOk result (λ output. output.status ≡ Status.Words → source.new ≡ source.old) }
-    ensures fault { IfOk result (λ output. (output.status ≡ Status.ReadFault) ↔ (S.faults source.old < S.faults source.new)) }
-    ensures end { IfOk result (λ output. (purpose : Purpose) → IsFor (map (λ word. string_bytes word) words.now) purpose → ReadsFor purpose →
-        IsOver output.status → IfSome (S.left source.old) (λ _. S.left source.new ≡ Some [])) }
-    ensures refused { IfOk result (λ output. (purpose : Purpose) → IsFor (map (λ word. string_bytes word) words.now) purpose → ReadsFor purpose →
-        output.status ≡ Status.Input → IsTakenFrom (S.left source.old) (S.left source.new)) }
+    ensures ends { IfOk result (λ output. EndsWith (map (λ word. string_bytes word) words.now) (source.new ≡ source.old)
+        (S.left source.old) (S.left source.new) (S.faults source.old) (S.faults source.new) output.status) }
     ensures unread { (purpose : Purpose) → IsFor (map (λ word. string_bytes word) words.now) purpose → ¬ (ReadsFor purpose) → source.new ≡ source.old }
 {
     law_one_purpose();

@@ -1,7 +1,7 @@
-//! The generated workflow of a seed and a size, which is never refused.
-ghost use Rattle.std.specs.Prelude.{◌≡◌, ◌≤◌, IfOk};
-ghost use Rattle.flow_model.specs.declared.limits.TheConstants.{GREATEST_SEED, GREATEST_SIZE};
+//! The generated workflow of a request, which is never refused.
+ghost use Rattle.std.specs.Prelude.{◌≡◌, IfOk};
 ghost use Rattle.flow_form.specs.Script.{said};
+ghost use Rattle.flow_words.specs.Words.{IsWithin};
 ghost use Rattle.flow_workflow.specs.Definition.{schema_of};
 ghost use Rattle.flow_expand.specs.Workflows.{IsExpanded};
 ghost use Rattle.flow_plan.specs.Compilation.{IsCompiled};
@@ -15,19 +15,18 @@ use flow_gen::{
 };
 use flow_plan::Compiled;
 use flow_text::{law_texts_say_one_thing, parse};
+use flow_words::Request;
 use flow_workflow::Workflow;
 use std::alloc::{AllocError, Global};
 
 /// The script that the generated text says.
-fn generated_script(alloc: Global, seed: u32, size: u32) -> Result<Script, AllocError>
-    requires seed { seed ≤ GREATEST_SEED }
-    requires some { 1 ≤ size }
-    requires few { size ≤ GREATEST_SIZE }
-    ensures { IfOk result (λ script. said script ≡ generated seed size) }
+fn generated_script(alloc: Global, request: Request) -> Result<Script, AllocError>
+    requires { IsWithin request }
+    ensures { IfOk result (λ script. said script ≡ generated request.seed request.size) }
 {
     law_generated_texts_are_read();
     law_texts_say_one_thing();
-    let text = generate(alloc, seed, size)?;
+    let text = generate(alloc, request.seed, request.size)?;
     match parse(alloc, &text) {
         Ok(script) => Ok(script),
         Err(refusal) => match refusal {
@@ -38,18 +37,12 @@ fn generated_script(alloc: Global, seed: u32, size: u32) -> Result<Script, Alloc
 }
 
 /// The workflow that the generated text says.
-pub(crate) fn generated_workflow(
-    alloc: Global,
-    seed: u32,
-    size: u32,
-) -> Result<Workflow, AllocError>
-    requires seed { seed ≤ GREATEST_SEED }
-    requires some { 1 ≤ size }
-    requires few { size ≤ GREATEST_SIZE }
-    ensures { IfOk result (IsExpanded (generated seed size)) }
+pub(crate) fn generated_workflow(alloc: Global, request: Request) -> Result<Workflow, AllocError>
+    requires { IsWithin request }
+    ensures { IfOk result (IsExpanded (generated request.seed request.size)) }
 {
-    let script = generated_script(alloc, seed, size)?;
-    let workflow = expand_generated(alloc, &script, seed, size);
+    let script = generated_script(alloc, request)?;
+    let workflow = expand_generated(alloc, &script, request);
     drop(script);
     workflow
 }
@@ -58,13 +51,11 @@ pub(crate) fn generated_workflow(
 fn expand_generated(
     alloc: Global,
     script: &Script,
-    seed: u32,
-    size: u32,
+    request: Request,
 ) -> Result<Workflow, AllocError>
-    requires script { said script.now ≡ generated seed size }
-    requires some { 1 ≤ size }
-    requires few { size ≤ GREATEST_SIZE }
-    ensures { IfOk result (IsExpanded (generated seed size)) }
+    requires within { IsWithin request }
+    requires script { said script.now ≡ generated request.seed request.size }
+    ensures { IfOk result (IsExpanded (generated request.seed request.size)) }
 {
     law_generated_texts_are_read();
     law_generated_workflows_are_expanded();
@@ -81,12 +72,10 @@ fn expand_generated(
 pub(crate) fn compile_generated(
     alloc: Global,
     workflow: &Workflow,
-    seed: u32,
-    size: u32,
+    request: Request,
 ) -> Result<Compiled, AllocError>
-    requires expanded { IsExpanded (generated seed size) workflow.now }
-    requires some { 1 ≤ size }
-    requires few { size ≤ GREATEST_SIZE }
+    requires within { IsWithin request }
+    requires expanded { IsExpanded (generated request.seed request.size) workflow.now }
     ensures { IfOk result (IsCompiled (schema_of workflow.now)) }
 {
     law_generated_workflows_are_compiled();

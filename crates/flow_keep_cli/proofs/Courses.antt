@@ -5,42 +5,43 @@ use Rattle.flow_record.specs.declared.command.Command.{Command}
 use Rattle.flow_workflow.specs.Definition.{Definition}
 use Rattle.flow_reply.specs.Verdict.{ended}
 use Rattle.flow_core.specs.Run.{Run}
+use Rattle.flow_front.specs.declared.status.Status.TheVariants as front
+use Rattle.flow_keep.specs.declared.refusal.KeepRefusal.TheVariants as keep
 use Rattle.flow_keep_cli.specs.declared.begin.Hindrance.{Hindrance}
 use Rattle.flow_keep_cli.specs.declared.begin.Hindrance.TheVariants as hindrance
 use Rattle.flow_keep_cli.specs.declared.status.KeepStatus.{KeepStatus}
 use Rattle.flow_keep_cli.specs.declared.status.KeepStatus.TheVariants as ending
-use Rattle.flow_keep_cli.specs.Status.{status_of}
 use Rattle.flow_keep_cli.specs.Lines.{kept_line, open_line, disk_line, foreign_line}
 use Rattle.flow_keep_cli.specs.Session.{IsCut, BehindStatus, IsWhole}
 use Rattle.flow_keep_cli.specs.Asked.{Wanted, IsWanted}
 use Rattle.flow_keep_cli.specs.Course.{run_from, IsAt, IsFound, IsSaid, IsTold, IsSilent, IsFirstLine, IsSafe, IsNotBegun, IsCutShort, IsGoneThrough, IsCourse, IsAnsweredAlone, IsBefore, IsCutOff, IsDriven, IsOver, IsRefusal, IsMishap}
 use Rattle.flow_keep_cli.proofs.Disks.{safe_same}
 
-over_verdict : (v : model.Verdict) → IsOver (status_of (ended v))
+over_verdict : (v : model.Verdict) → IsOver (ending.Of (ended v))
 over_verdict model.committed = tt
 over_verdict model.spent = tt
 over_verdict other = tt
 
 not_both : (s : KeepStatus) → IsOver s → IsMishap s ⊎ IsRefusal s → ⊥
-not_both ending.Fine over (inl h) = h
-not_both ending.Fine over (inr h) = h
-not_both ending.No over (inl h) = h
-not_both ending.No over (inr h) = h
-not_both ending.Spent over (inl h) = h
-not_both ending.Spent over (inr h) = h
+not_both (ending.Of front.Fine) over (inl h) = h
+not_both (ending.Of front.Fine) over (inr h) = h
+not_both (ending.Of front.No) over (inl h) = h
+not_both (ending.Of front.No) over (inr h) = h
+not_both (ending.Of front.Spent) over (inl h) = h
+not_both (ending.Of front.Spent) over (inr h) = h
 not_both other over h = over
 
 not_mishap : (s : KeepStatus) → IsRefusal s → IsMishap s → ⊥
-not_mishap ending.Words refusal mishap = mishap
-not_mishap ending.Input refusal mishap = mishap
-not_mishap ending.ReadFault refusal mishap = mishap
+not_mishap (ending.Of front.Words) refusal mishap = mishap
+not_mishap (ending.Of front.Input) refusal mishap = mishap
+not_mishap (ending.Of front.ReadFault) refusal mishap = mishap
 not_mishap other refusal mishap = refusal
 
 -- a session that is cut short ends with a mishap
 behind_mishap : (commands : List Command) (s : KeepStatus) (r : Run) (done : ℕ) (more : List ℕ) → BehindStatus commands s r done more → IsMishap s
-behind_mishap commands ending.Memory r done more h = tt
+behind_mishap commands (ending.Of front.Memory) r done more h = tt
 behind_mishap commands ending.Disk r done more h = tt
-behind_mishap commands ending.WriteFault r done more h = tt
+behind_mishap commands (ending.Of front.WriteFault) r done more h = tt
 behind_mishap commands other r done more h = h
 
 said_not_over : (status result : KeepStatus) (text : List ℕ) (held held' : Option (List ℕ)) → ¬ (IsOver status) → IsSaid status text held held' result → ¬ (IsOver result)
@@ -52,10 +53,10 @@ silent_not_over held held' result (is, nothing) over = subst IsOver is over
 
 told_not_over : (why : Hindrance) (held held' : Option (List ℕ)) (result : KeepStatus) → IsTold why held held' result → ¬ (IsOver result)
 told_not_over hindrance.Open held held' result told over = said_not_over ending.Disk result open_line held held' (λ o. o) told over
-told_not_over hindrance.Disk held held' result told over = said_not_over ending.Disk result disk_line held held' (λ o. o) told over
-told_not_over (hindrance.Foreign index) held held' result (inl told) over = said_not_over ending.Input result (foreign_line index) held held' (λ o. o) told over
-told_not_over (hindrance.Foreign index) held held' result (inr silent) over = silent_not_over held held' result silent over
-told_not_over hindrance.NoMemory held held' result silent over = silent_not_over held held' result silent over
+told_not_over (hindrance.Later keep.DiskFault) held held' result told over = said_not_over ending.Disk result disk_line held held' (λ o. o) told over
+told_not_over (hindrance.Later (keep.Foreign index)) held held' result (inl told) over = said_not_over (ending.Of front.Input) result (foreign_line index) held held' (λ o. o) told over
+told_not_over (hindrance.Later (keep.Foreign index)) held held' result (inr silent) over = silent_not_over held held' result silent over
+told_not_over (hindrance.Later keep.NoMemory) held held' result silent over = silent_not_over held held' result silent over
 
 module _ {D : Type 0} (tells : Type 0) (moment : D → ℕ) (image : D → ℕ → List ℕ → Type 0) (synced : D → ℕ → Type 0) (seen : D → List ℕ) (faults : D → ℕ) (chosen : D → Option ℕ) (file_at : List ℕ → ℕ)
     (words : List (List ℕ)) (source : Option (List ℕ)) (disk disk' : D) (held held' : Option (List ℕ)) (result : KeepStatus) where

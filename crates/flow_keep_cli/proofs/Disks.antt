@@ -8,7 +8,7 @@ use Rattle.flow_keep.specs.declared.refusal.KeepRefusal.{KeepRefusal}
 use Rattle.flow_keep.specs.declared.refusal.KeepRefusal.TheVariants.{DiskFault, Foreign, NoMemory}
 use Rattle.flow_keep.specs.Records.{records}
 use Rattle.flow_keep.specs.Opened.{KeepsRecords, KeepsSyncs, IsForeign}
-use Rattle.flow_keep_cli.specs.Hindrances.{hindrance_of}
+use Rattle.flow_keep_cli.specs.declared.begin.Hindrance.TheVariants.{Later}
 use Rattle.flow_keep_cli.specs.Course.{IsQuiet, IsAt, IsHindered}
 
 module _ {D : Type 0} (moment : D → ℕ) (image : D → ℕ → List ℕ → Type 0) (synced : D → ℕ → Type 0) (seen : D → List ℕ) where
@@ -52,7 +52,7 @@ pub hindered_of : {D : Type 0} (tells : Type 0) (moment : D → ℕ) (image : D 
     IsAt tells moment image synced seen faults chosen file_at path opened → chosen disk' ≡ chosen opened → ((why ≡ DiskFault) ↔ (faults opened < faults disk')) →
     (tells → (index : ℕ) → why ≡ Foreign index → IsForeign (schema_of w) steps (records (seen opened)) index) →
     (tells → (index : ℕ) → why ≡ Foreign index → seen disk' ≡ seen opened) →
-    IsHindered tells moment image synced seen faults chosen file_at path w steps disk (hindrance_of why) disk'
+    IsHindered tells moment image synced seen faults chosen file_at path w steps disk (Later why) disk'
 hindered_of tells moment image synced seen faults chosen file_at path w steps disk opened disk' DiskFault quiet fine at same_file fault foreign alone =
     ((opened, quiet, fine, fault.0 refl), same_file ∙ at)
 hindered_of tells moment image synced seen faults chosen file_at path w steps disk opened disk' (Foreign index) quiet fine at same_file fault foreign alone = (

@@ -20,7 +20,6 @@ use Rattle.flow_keep_cli.specs.declared.asked.Looked.TheVariants as looked
 use Rattle.flow_keep_cli.specs.declared.status.KeepStatus.{KeepStatus}
 use Rattle.flow_keep_cli.specs.declared.status.KeepStatus.TheVariants as ending
 use Rattle.flow_keep_cli.specs.Lines.{words_text, help_text}
-use Rattle.flow_keep_cli.specs.Status.{status_of}
 use Rattle.flow_keep_cli.specs.Words.{IsHelp, IsCall, IsNoCall}
 
 -- the text is the session, what is said is that workflow, and it is compiled, so some execution of it meets every constraint
@@ -48,12 +47,12 @@ IsRefusedBy source status output =
 
 -- what comes of what is said and the text
 abbrev pub IsLookedIn : Said → List ℕ → Looked → Type 0
-IsLookedIn s text (looked.Ready asked) = IsAskedIn s text asked.workflow asked.compiled asked.commands.items
+IsLookedIn s text (looked.Ready asked) = IsAskedIn s text asked.prepared.workflow asked.prepared.compiled asked.commands.items
 IsLookedIn s text (looked.Refused output) = IsRefusedIn s text output.status output.text.items
 
 -- what comes of a source
 abbrev pub IsLooked : Option (List ℕ) → Looked → Type 0
-IsLooked source (looked.Ready asked) = IsAskedBy source asked.workflow asked.compiled asked.commands.items
+IsLooked source (looked.Ready asked) = IsAskedBy source asked.prepared.workflow asked.prepared.compiled asked.commands.items
 IsLooked source (looked.Refused output) = IsRefusedBy source output.status output.text.items
 
 -- it is a refusal because the source failed
@@ -89,6 +88,6 @@ pub record IsWanted (words : List (List ℕ)) (source : Option (List ℕ)) (want
 -- the words ask for help, or are no call, or the source is refused, with this status and this text
 abbrev pub NeedsNoDisk : List (List ℕ) → Option (List ℕ) → KeepStatus → List ℕ → Type 0
 NeedsNoDisk words source status text =
-    (IsHelp words × (status ≡ ending.Fine) × (text ≡ help_text))
-    ⊎ ((¬ (IsHelp words)) × ((IsNoCall words × (status ≡ ending.Words) × (text ≡ words_text))
-    ⊎ ((path : List ℕ) × ((steps : ℕ) × IsCall words path steps × ((of : Status) × (status ≡ status_of of) × IsRefusedBy source of text)))))
+    (IsHelp words × (status ≡ ending.Of front.Fine) × (text ≡ help_text))
+    ⊎ ((¬ (IsHelp words)) × ((IsNoCall words × (status ≡ ending.Of front.Words) × (text ≡ words_text))
+    ⊎ ((path : List ℕ) × ((steps : ℕ) × IsCall words path steps × ((of : Status) × (status ≡ ending.Of of) × IsRefusedBy source of text)))))

@@ -12,6 +12,8 @@ use Rattle.flow_io.specs.Sink.{AppendsPart}
 use Rattle.flow_disk.specs.Disk.{Rests}
 use Rattle.flow_keep.specs.Records.{records, Keeps}
 use Rattle.flow_keep.specs.Opened.{KeepsRecords, IsForeign, HasNoForeign}
+use Rattle.flow_front.specs.declared.status.Status.TheVariants as front
+use Rattle.flow_keep.specs.declared.refusal.KeepRefusal.TheVariants as keep
 use Rattle.flow_keep_cli.specs.declared.begin.Hindrance.{Hindrance}
 use Rattle.flow_keep_cli.specs.declared.begin.Hindrance.TheVariants as hindrance
 use Rattle.flow_keep_cli.specs.declared.status.KeepStatus.{KeepStatus}
@@ -19,34 +21,33 @@ use Rattle.flow_keep_cli.specs.declared.status.KeepStatus.TheVariants as ending
 use Rattle.flow_keep_cli.specs.Lines.{kept_line, open_line, disk_line, foreign_line}
 use Rattle.flow_keep_cli.specs.Session as session
 use Rattle.flow_keep_cli.specs.Session.{driven_report, BehindStatus, IsCut}
-use Rattle.flow_keep_cli.specs.Status.{status_of}
 use Rattle.flow_reply.specs.Verdict.{ended}
 use Rattle.flow_keep_cli.specs.Asked.{Wanted, IsWanted, NeedsNoDisk}
 
 -- the text is written with that status, or after a write that failed a front of it, and not all
 abbrev pub IsSaid : KeepStatus → List ℕ → Option (List ℕ) → Option (List ℕ) → KeepStatus → Type 0
 IsSaid status text held held' result =
-    ((result ≡ status) × Appends held held' text) ⊎ ((result ≡ ending.WriteFault) × AppendsPart held held' text)
+    ((result ≡ status) × Appends held held' text) ⊎ ((result ≡ ending.Of front.WriteFault) × AppendsPart held held' text)
 
 -- there was no memory, and nothing was written
 abbrev pub IsSilent : Option (List ℕ) → Option (List ℕ) → KeepStatus → Type 0
-IsSilent held held' result = (result ≡ ending.Memory) × (held' ≡ held)
+IsSilent held held' result = (result ≡ ending.Of front.Memory) × (held' ≡ held)
 
 -- the report of a driven run is written, with the status of what it came to
 abbrev pub IsReported : Run → Option (List ℕ) → Option (List ℕ) → KeepStatus → Type 0
-IsReported r held held' result = IsSaid (status_of (ended (drive_verdict (schema r) r.limit r.history))) (driven_report r) held held' result ⊎ IsSilent held held' result
+IsReported r held held' result = IsSaid (ending.Of (ended (drive_verdict (schema r) r.limit r.history))) (driven_report r) held held' result ⊎ IsSilent held held' result
 
 -- the first line is not written whole: there was no memory for it, or the sink failed within it
 abbrev pub IsFirstLine : List Entry → Option (List ℕ) → Option (List ℕ) → KeepStatus → Type 0
 IsFirstLine history held held' result =
-    IsSilent held held' result ⊎ ((result ≡ ending.WriteFault) × AppendsPart held held' (kept_line (length history)))
+    IsSilent held held' result ⊎ ((result ≡ ending.Of front.WriteFault) × AppendsPart held held' (kept_line (length history)))
 
 -- it is said why a session is not begun
 abbrev pub IsTold : Hindrance → Option (List ℕ) → Option (List ℕ) → KeepStatus → Type 0
 IsTold hindrance.Open held held' result = IsSaid ending.Disk open_line held held' result
-IsTold hindrance.Disk held held' result = IsSaid ending.Disk disk_line held held' result
-IsTold (hindrance.Foreign index) held held' result = IsSaid ending.Input (foreign_line index) held held' result ⊎ IsSilent held held' result
-IsTold hindrance.NoMemory held held' result = IsSilent held held' result
+IsTold (hindrance.Later keep.DiskFault) held held' result = IsSaid ending.Disk disk_line held held' result
+IsTold (hindrance.Later (keep.Foreign index)) held held' result = IsSaid (ending.Of front.Input) (foreign_line index) held held' result ⊎ IsSilent held held' result
+IsTold (hindrance.Later keep.NoMemory) held held' result = IsSilent held held' result
 
 -- the run that goes on from these entries
 abbrev pub run_from : Definition → ℕ → List Entry → Run
@@ -82,12 +83,12 @@ module _ {D : Type 0} (tells : Type 0) (moment : D → ℕ) (image : D → ℕ �
   -- one, with that file chosen; or else the record of that number is foreign, and the file is as it was.
   abbrev pub IsHindered : List ℕ → Definition → ℕ → D → Hindrance → D → Type 0
   IsHindered path w steps disk hindrance.Open disk' = IsQuiet disk disk' × (faults disk' ≡ faults disk + 1) × (chosen disk' ≡ None)
-  IsHindered path w steps disk hindrance.Disk disk' =
+  IsHindered path w steps disk (hindrance.Later keep.DiskFault) disk' =
       ((opened : D) × IsQuiet disk opened × (faults opened ≡ faults disk) × (faults opened < faults disk')) × IsAt path disk'
-  IsHindered path w steps disk (hindrance.Foreign index) disk' =
+  IsHindered path w steps disk (hindrance.Later (keep.Foreign index)) disk' =
       ¬ (faults disk < faults disk') × (tells → IsForeign (schema_of w) steps (records (seen disk)) index) × (tells → seen disk' ≡ seen disk)
       × IsAt path disk'
-  IsHindered path w steps disk hindrance.NoMemory disk' = ¬ (faults disk < faults disk') × IsAt path disk'
+  IsHindered path w steps disk (hindrance.Later keep.NoMemory) disk' = ¬ (faults disk < faults disk') × IsAt path disk'
 
   -- The session is not begun. It is said why, or there was no memory for the first line, or the sink failed within it.
   abbrev pub IsNotBegun : List ℕ → Definition → ℕ → D → D → Option (List ℕ) → Option (List ℕ) → KeepStatus → Type 0
@@ -139,22 +140,22 @@ module _ {D : Type 0} (tells : Type 0) (moment : D → ℕ) (image : D → ℕ �
 
 -- the call ended with what a run came to, or with a workflow that no execution meets
 abbrev pub IsOver : KeepStatus → Type 0
-IsOver ending.Fine = Unit {0}
-IsOver ending.No = Unit {0}
-IsOver ending.Spent = Unit {0}
+IsOver (ending.Of front.Fine) = Unit {0}
+IsOver (ending.Of front.No) = Unit {0}
+IsOver (ending.Of front.Spent) = Unit {0}
 IsOver other = ⊥
 
 -- a refusal of what was given
 abbrev pub IsRefusal : KeepStatus → Type 0
-IsRefusal ending.Words = Unit {0}
-IsRefusal ending.Input = Unit {0}
-IsRefusal ending.ReadFault = Unit {0}
+IsRefusal (ending.Of front.Words) = Unit {0}
+IsRefusal (ending.Of front.Input) = Unit {0}
+IsRefusal (ending.Of front.ReadFault) = Unit {0}
 IsRefusal other = ⊥
 
 -- what may come at every moment
 abbrev pub IsMishap : KeepStatus → Type 0
-IsMishap ending.WriteFault = Unit {0}
-IsMishap ending.Memory = Unit {0}
+IsMishap (ending.Of front.WriteFault) = Unit {0}
+IsMishap (ending.Of front.Memory) = Unit {0}
 IsMishap ending.Disk = Unit {0}
 IsMishap other = ⊥
 

@@ -3,5 +3,4 @@ pub mod Status
 pub mod Lines
 pub mod Session
 pub mod Asked
-pub mod Hindrances
 pub mod Course

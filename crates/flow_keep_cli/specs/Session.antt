@@ -11,12 +11,12 @@ use Rattle.flow_reply.specs.Session.{Driven, IsSession, driven_text}
 use Rattle.flow_model.specs.declared.history.Entry.{Entry}
 use Rattle.flow_keep.specs.Kept.{KeepsEither}
 use Rattle.flow_keep.specs.Records.{Keeps}
+use Rattle.flow_front.specs.declared.status.Status.TheVariants as front
 use Rattle.flow_keep_cli.specs.declared.replies.Cut.{Cut}
 use Rattle.flow_keep_cli.specs.declared.replies.Cut.TheVariants as cut
 use Rattle.flow_keep_cli.specs.declared.status.KeepStatus.{KeepStatus}
 use Rattle.flow_keep_cli.specs.declared.status.KeepStatus.TheVariants as ending
 use Rattle.flow_keep_cli.specs.Lines.{disk_line}
-use Rattle.flow_keep_cli.specs.Status.{status_of}
 
 -- the number of the caller that makes the entries of a session
 abbrev pub driver : ℕ
@@ -80,9 +80,9 @@ IsNext commands r done line =
 
 -- what stands behind the replies where a call ends so
 abbrev pub BehindStatus : List Command → KeepStatus → Run → ℕ → List ℕ → Type 0
-BehindStatus commands ending.Memory r done more = more ≡ []
+BehindStatus commands (ending.Of front.Memory) r done more = more ≡ []
 BehindStatus commands ending.Disk r done more = more ≡ disk_line
-BehindStatus commands ending.WriteFault r done more = (line : List ℕ) × IsNext commands r done line × IsFront line more
+BehindStatus commands (ending.Of front.WriteFault) r done more = (line : List ℕ) × IsNext commands r done line × IsFront line more
 BehindStatus commands other r done more = ⊥
 
 -- The session was gone through: every reply and the report were written, a read gives the history of that report, and so does a crash now.
@@ -90,7 +90,7 @@ pub record IsWhole (first : Run) (commands : List Command) (front : List ℕ) (s
     (held held' : Option (List ℕ)) (tells : Type 0) (seen : List ℕ) (images : List ℕ → Type 0) : Type 0 where
   pub driven : Driven
   pub session : IsSession first driver commands driven
-  pub status_is : status ≡ status_of (ended driven.verdict)
+  pub status_is : status ≡ ending.Of (ended driven.verdict)
   pub written : Appends held held' (front ++ driven_text driven)
   pub read : tells → Keeps driven.last.history seen
   pub durable : tells → (file : List ℕ) → images file → Keeps driven.last.history file

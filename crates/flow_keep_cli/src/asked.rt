@@ -6,16 +6,13 @@ ghost use Rattle.flow_keep_cli.specs.Asked.{IsAskedIn, IsNotAskedIn, IsLookedIn,
 
 use flow_front::{Input, Output, Prepared, Stop, prepare, read_input, refuse};
 use flow_io::Source;
-use flow_plan::Compiled;
 use flow_record::{Command, read_session};
-use flow_workflow::Workflow;
 use std::alloc::{AllocError, Global};
 
 /// A workflow whose constraints can be met, with its plans, and the session that it is to be driven by.
 #[derive(Drop)]
 pub(crate) struct Asked {
-    pub(crate) workflow: Workflow,
-    pub(crate) compiled: Compiled,
+    pub(crate) prepared: Prepared,
     pub(crate) commands: Vec<Command>,
 }
 
@@ -31,17 +28,12 @@ pub(crate) enum Looked {
 fn asked_in(alloc: Global, input: &Input) -> Result<Asked, Stop>
     requires { IsClosed (said input.now.script) }
     ensures asked { IfOk result (λ asked. IsAskedIn (said input.now.script) input.now.second.items
-        asked.workflow asked.compiled asked.commands.items) }
+        asked.prepared.workflow asked.prepared.compiled asked.commands.items) }
     ensures stop { IfErr result (IsStop (IsNotAskedIn (said input.now.script) input.now.second.items)) }
 {
     let commands = read_session(alloc, &input.second)?;
     let prepared = prepare(alloc, &input.script)?;
-    let Prepared { workflow, compiled } = prepared;
-    Ok(Asked {
-        workflow,
-        compiled,
-        commands,
-    })
+    Ok(Asked { prepared, commands })
 }
 
 /// What an input asks for, or why it is refused, in words.

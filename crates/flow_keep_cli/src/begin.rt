@@ -7,9 +7,8 @@ ghost use Rattle.flow_keep_cli.specs.Course.{run_from, IsAt, IsFound, IsSafe, Is
 
 use crate::words::Call;
 use flow_disk::Disk;
+use flow_front::Prepared;
 use flow_keep::{Keep, KeepRefusal, Unopened};
-use flow_plan::Compiled;
-use flow_workflow::Workflow;
 use std::alloc::Global;
 
 /// Why a session is not begun.
@@ -17,26 +16,8 @@ use std::alloc::Global;
 pub(crate) enum Hindrance {
     /// The disk failed when the file was chosen.
     Open,
-    /// The disk failed later.
-    Disk,
-    /// The record of that number is the first that is of no run of the workflow.
-    Foreign { index: u32 },
-    /// There is not enough memory.
-    NoMemory,
-}
-
-impl From<KeepRefusal> for Hindrance {
-    ghost use Rattle.flow_keep_cli.specs.Hindrances.{hindrance_of};
-
-    ghost from_gives = { λ refusal why. why ≡ hindrance_of refusal };
-
-    fn from(refusal: KeepRefusal) -> Hindrance {
-        match refusal {
-            KeepRefusal::DiskFault => Hindrance::Disk,
-            KeepRefusal::Foreign { index } => Hindrance::Foreign { index },
-            KeepRefusal::NoMemory => Hindrance::NoMemory,
-        }
-    }
+    /// The file was chosen, and no keep is made of it.
+    Later(KeepRefusal),
 }
 
 /// The disk on which no session is begun, and why.
@@ -50,23 +31,23 @@ pub(crate) struct Hindered<D: Disk> {
 pub(crate) fn begin<D: Disk>(
     alloc: Global,
     call: Call<'_>,
-    workflow: Workflow,
-    compiled: Compiled,
+    prepared: Prepared,
     disk: D,
 ) -> Result<Keep<D>, Hindered<D>>
-    requires compiled { IsCompiled (schema_of workflow) compiled }
+    requires compiled { IsCompiled (schema_of prepared.workflow) prepared.compiled }
     requires steps { IsStepCount call.steps }
     requires faults { D.faults disk < 2 ^ 64 - 1 }
-    ensures run { IfOk result (λ keep. run_of keep ≡ run_from workflow call.entry.steps (run_of keep).history) }
-    ensures found { IfOk result (λ keep. IsFound D.tells (D.seen disk) workflow call.entry.steps (run_of keep).history) }
+    ensures run { IfOk result (λ keep. run_of keep ≡ run_from prepared.workflow call.entry.steps (run_of keep).history) }
+    ensures found { IfOk result (λ keep. IsFound D.tells (D.seen disk) prepared.workflow call.entry.steps (run_of keep).history) }
     ensures whole { IfOk result (λ keep. is_broken keep ≡ false) }
     ensures no_fault { IfOk result (λ keep. D.faults (disk_of keep) ≡ D.faults disk) }
     ensures file { IfOk result (λ keep. IsAt D.tells D.moment D.image D.synced D.seen D.faults D.chosen D.file_at call.entry.path.now (disk_of keep)) }
     ensures begun { IfOk result (λ keep. IsSafe D.tells D.moment D.image D.synced D.seen D.faults D.chosen D.file_at disk (disk_of keep)) }
     ensures hindered { IfErr result (λ hindered. IsHindered D.tells D.moment D.image D.synced D.seen D.faults D.chosen D.file_at
-        call.entry.path.now workflow call.entry.steps disk hindered.why hindered.disk) }
+        call.entry.path.now prepared.workflow call.entry.steps disk hindered.why hindered.disk) }
     ensures safe { IfErr result (λ hindered. IsSafe D.tells D.moment D.image D.synced D.seen D.faults D.chosen D.file_at disk hindered.disk) }
 {
+    let Prepared { workflow, compiled } = prepared;
     let mut disk = disk;
     let Ok(()) = disk.open(call.path) else {
         return Err(Hindered {
@@ -78,7 +59,7 @@ pub(crate) fn begin<D: Disk>(
         Ok(keep) => Ok(keep),
         Err(Unopened { disk, why }) => Err(Hindered {
             disk,
-            why: Hindrance::from(why),
+            why: Hindrance::Later(why),
         }),
     }
 }

@@ -17,6 +17,7 @@ use crate::session::go_on;
 use crate::status::KeepStatus;
 use crate::words::{Call, asks_for_help, call_of};
 use flow_disk::Disk;
+use flow_front::Status;
 use flow_io::{Sink, Source};
 use std::alloc::Global;
 
@@ -35,23 +36,19 @@ fn keep_session<K: Sink, D: Disk>(
     sink: &mut K,
     disk: D,
 ) -> (KeepStatus, D)
-    requires compiled { IsCompiled (schema_of asked.workflow) asked.compiled }
+    requires compiled { IsCompiled (schema_of asked.prepared.workflow) asked.prepared.compiled }
     requires steps { IsStepCount call.steps }
     requires disk_counts { D.faults disk < 2 ^ 64 - 1 }
     requires sink_counts { K.faults sink.old < 2 ^ 64 - 1 }
-    ensures course { IsCourse D.tells D.moment D.image D.synced D.seen D.faults D.chosen D.file_at call.entry.path.now asked.workflow call.entry.steps asked.commands.items
+    ensures course { IsCourse D.tells D.moment D.image D.synced D.seen D.faults D.chosen D.file_at call.entry.path.now asked.prepared.workflow call.entry.steps asked.commands.items
         disk result.1 (K.held sink.old) (K.held sink.new) result.0 }
-    ensures write_fault { (result.0 ≡ KeepStatus.WriteFault) ↔ (K.faults sink.old < K.faults sink.new) }
+    ensures write_fault { (result.0 ≡ KeepStatus.Of Status.WriteFault) ↔ (K.faults sink.old < K.faults sink.new) }
     ensures disk_fault { result.0 ≡ KeepStatus.Disk → D.faults disk < D.faults result.1 }
-    ensures disk_fault_told { D.faults disk < D.faults result.1 → (result.0 ≡ KeepStatus.Disk) ⊎ (result.0 ≡ KeepStatus.WriteFault) }
-    ensures input { IsRefusal result.0 → result.0 ≡ KeepStatus.Input }
+    ensures disk_fault_told { D.faults disk < D.faults result.1 → (result.0 ≡ KeepStatus.Disk) ⊎ (result.0 ≡ KeepStatus.Of Status.WriteFault) }
+    ensures input { IsRefusal result.0 → result.0 ≡ KeepStatus.Of Status.Input }
 {
-    let Asked {
-        workflow,
-        compiled,
-        commands,
-    } = asked;
-    match begin(alloc, call, workflow, compiled, disk) {
+    let Asked { prepared, commands } = asked;
+    match begin(alloc, call, prepared, disk) {
         Ok(mut keep) => {
             let status = go_on(alloc, &mut keep, &commands, sink);
             (status, keep.into_disk())
@@ -91,36 +88,36 @@ pub fn flowkeep<S: Source, K: Sink, D: Disk>(
         disk result.1 (K.held sink.old) (K.held sink.new) result.0 }
 
     // When each fault is told. A write that fails stands in place of all else, and a disk that failed of all but that.
-    ensures write_fault { (result.0 ≡ KeepStatus.WriteFault) ↔ (K.faults sink.old < K.faults sink.new) }
+    ensures write_fault { (result.0 ≡ KeepStatus.Of Status.WriteFault) ↔ (K.faults sink.old < K.faults sink.new) }
     ensures disk_fault { result.0 ≡ KeepStatus.Disk → D.faults disk < D.faults result.1 }
-    ensures disk_fault_told { D.faults disk < D.faults result.1 → (result.0 ≡ KeepStatus.Disk) ⊎ (result.0 ≡ KeepStatus.WriteFault) }
-    ensures read_fault { result.0 ≡ KeepStatus.ReadFault → S.faults source.old < S.faults source.new }
+    ensures disk_fault_told { D.faults disk < D.faults result.1 → (result.0 ≡ KeepStatus.Disk) ⊎ (result.0 ≡ KeepStatus.Of Status.WriteFault) }
+    ensures read_fault { result.0 ≡ KeepStatus.Of Status.ReadFault → S.faults source.old < S.faults source.new }
     ensures read_fault_told { S.faults source.old < S.faults source.new →
-        (result.0 ≡ KeepStatus.ReadFault) ⊎ ((result.0 ≡ KeepStatus.WriteFault) ⊎ (result.0 ≡ KeepStatus.Memory)) }
+        (result.0 ≡ KeepStatus.Of Status.ReadFault) ⊎ ((result.0 ≡ KeepStatus.Of Status.WriteFault) ⊎ (result.0 ≡ KeepStatus.Of Status.Memory)) }
 
     // Help is given exactly where it is asked for. What is read of the source.
     ensures help { IsHelp (map (λ word. string_bytes word) words.now) → (result.1 ≡ disk) × (source.new ≡ source.old)
-        × IsSaid KeepStatus.Fine help_text (K.held sink.old) (K.held sink.new) result.0 }
-    ensures words { result.0 ≡ KeepStatus.Words → source.new ≡ source.old }
+        × IsSaid (KeepStatus.Of Status.Fine) help_text (K.held sink.old) (K.held sink.new) result.0 }
+    ensures words { result.0 ≡ KeepStatus.Of Status.Words → source.new ≡ source.old }
     ensures read { ¬ (IsHelp (map (λ word. string_bytes word) words.now)) → ReadsWhole result.0 →
         IsReadWhole (S.left source.old) (S.left source.new) }
     ensures taken { (path : List ℕ) (steps : ℕ) → IsCall (map (λ word. string_bytes word) words.now) path steps →
-        ¬ (IsHelp (map (λ word. string_bytes word) words.now)) → result.0 ≢ KeepStatus.Memory →
+        ¬ (IsHelp (map (λ word. string_bytes word) words.now)) → result.0 ≢ KeepStatus.Of Status.Memory →
         ¬ (S.faults source.old < S.faults source.new) → IsTaken (S.left source.old) (S.left source.new) }
 {
     if asks_for_help(words) {
-        return (say(sink, KeepStatus::Fine, HELP_TEXT), disk);
+        return (say(sink, KeepStatus::Of(Status::Fine), HELP_TEXT), disk);
     }
     let Some(call) = call_of(words) else {
-        return (say(sink, KeepStatus::Words, WORDS_TEXT), disk);
+        return (say(sink, KeepStatus::Of(Status::Words), WORDS_TEXT), disk);
     };
     match look(alloc, source) {
         Ok(Looked::Ready(asked)) => keep_session(alloc, call, asked, sink, disk),
         Ok(Looked::Refused(output)) => {
-            let status = say(sink, KeepStatus::from(output.status), &output.text);
+            let status = say(sink, KeepStatus::Of(output.status), &output.text);
             drop(output);
             (status, disk)
         }
-        Err(_) => (KeepStatus::Memory, disk),
+        Err(_) => (KeepStatus::Of(Status::Memory), disk),
     }
 }

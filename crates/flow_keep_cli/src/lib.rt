@@ -11,5 +11,6 @@ mod status;
 mod words;
 
 pub use call::flowkeep;
+pub use flow_front::Status;
 pub use replies::{Cut, reply_to_all};
 pub use status::KeepStatus;

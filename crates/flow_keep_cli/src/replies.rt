@@ -1,12 +1,10 @@
 ghost use Rattle.std.specs.Prelude.{◌≡◌, ◌-◌, ◌^◌, ◌<◌, ℕ, List, [], false, IfErr, IfOk, OnOk, MatchResult};
 ghost use Rattle.std.specs.Io.KnownBytes.{Appends};
-ghost use Rattle.flow_record.specs.declared.command.Command.TheVariants.{Ask as Asks, Look as Looks};
 ghost use Rattle.flow_reply.specs.Replies.{RepliesTo, Drives};
 ghost use Rattle.flow_keep.specs.Holding.{run_of, disk_of, is_broken};
 ghost use Rattle.flow_keep_cli.specs.Session.{driver, IsCut, IsGiven, IsNoSink, BehindReplies, CountsCut, CountsServed, KeepsCut};
 ghost use Rattle.flow_keep.specs.Records.{Keeps};
 
-use flow_ask::{Ask, Look};
 use flow_disk::Disk;
 use flow_io::{Sink, write_all};
 use flow_keep::Keep;
@@ -29,6 +27,7 @@ pub enum Cut {
 }
 
 /// Gives a command to a keep none of whose calls has failed, and gives the line of the reply, once the entry that came of it is in the file.
+#[tactic(auto, using(crate::proofs::Served::answered, crate::proofs::Served::given_so))]
 fn serve<D: Disk>(alloc: Global, keep: &mut Keep<D>, command: &Command) -> Result<Vec<u8>, Cut>
     requires faults { D.faults (disk_of keep.old) < 2 ^ 64 - 1 }
     requires whole { is_broken keep.old ≡ false }
@@ -42,51 +41,23 @@ fn serve<D: Disk>(alloc: Global, keep: &mut Keep<D>, command: &Command) -> Resul
         → MatchResult result (λ line. Keeps (run_of keep.new).history c) (λ cut. KeepsCut (run_of keep.old).history (run_of keep.new).history cut c) }
 {
     match *command {
-        Command::Ask(ask) => serve_ask(alloc, keep, ask),
-        Command::Look(look) => serve_look(alloc, keep, look),
-    }
-}
-
-/// The same, of an ask.
-#[tactic(auto, using(crate::proofs::Served::answered, crate::proofs::Served::given_so))]
-fn serve_ask<D: Disk>(alloc: Global, keep: &mut Keep<D>, ask: Ask) -> Result<Vec<u8>, Cut>
-    requires faults { D.faults (disk_of keep.old) < 2 ^ 64 - 1 }
-    requires whole { is_broken keep.old ≡ false }
-    ensures cause { CountsServed (D.faults (disk_of keep.old)) (D.faults (disk_of keep.new)) result }
-    ensures unbroken { OnOk result (is_broken keep.new ≡ false) }
-    ensures same_file { D.chosen (disk_of keep.new) ≡ D.chosen (disk_of keep.old) }
-    ensures replies { IfOk result (λ line. RepliesTo (run_of keep.old) driver (Asks ask) line.items (run_of keep.new)) }
-    ensures given { IsGiven (run_of keep.old) (Asks ask) (run_of keep.new) }
-    ensures no_sink { IfErr result IsNoSink }
-    ensures kept { D.tells → (c : List ℕ) → D.image (disk_of keep.new) (D.moment (disk_of keep.new)) c
-        → MatchResult result (λ line. Keeps (run_of keep.new).history c) (λ cut. KeepsCut (run_of keep.old).history (run_of keep.new).history cut c) }
-{
-    let answer = keep.answer(ask, DRIVER);
-    if keep.is_broken() {
-        return Err(Cut::Disk);
-    }
-    match answer_line(alloc, keep.core(), ask, &answer) {
-        Ok(line) => Ok(line),
-        Err(_) => Err(Cut::Memory),
-    }
-}
-
-/// The same, of a look.
-fn serve_look<D: Disk>(alloc: Global, keep: &mut Keep<D>, look: Look) -> Result<Vec<u8>, Cut>
-    requires whole { is_broken keep.old ≡ false }
-    ensures cause { CountsServed (D.faults (disk_of keep.old)) (D.faults (disk_of keep.new)) result }
-    ensures unbroken { OnOk result (is_broken keep.new ≡ false) }
-    ensures same_file { D.chosen (disk_of keep.new) ≡ D.chosen (disk_of keep.old) }
-    ensures replies { IfOk result (λ line. RepliesTo (run_of keep.old) driver (Looks look) line.items (run_of keep.new)) }
-    ensures given { IsGiven (run_of keep.old) (Looks look) (run_of keep.new) }
-    ensures no_sink { IfErr result IsNoSink }
-    ensures kept { D.tells → (c : List ℕ) → D.image (disk_of keep.new) (D.moment (disk_of keep.new)) c
-        → MatchResult result (λ line. Keeps (run_of keep.new).history c) (λ cut. KeepsCut (run_of keep.old).history (run_of keep.new).history cut c) }
-{
-    keep.look_ahead();
-    match look_line(alloc, keep.core(), look) {
-        Ok(line) => Ok(line),
-        Err(_) => Err(Cut::Memory),
+        Command::Ask(ask) => {
+            let answer = keep.answer(ask, DRIVER);
+            if keep.is_broken() {
+                return Err(Cut::Disk);
+            }
+            match answer_line(alloc, keep.core(), ask, &answer) {
+                Ok(line) => Ok(line),
+                Err(_) => Err(Cut::Memory),
+            }
+        }
+        Command::Look(look) => {
+            keep.look_ahead();
+            match look_line(alloc, keep.core(), look) {
+                Ok(line) => Ok(line),
+                Err(_) => Err(Cut::Memory),
+            }
+        }
     }
 }
 

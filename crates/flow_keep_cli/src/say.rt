@@ -5,7 +5,9 @@ ghost use Rattle.flow_keep_cli.specs.Course.{IsTold, IsSaid};
 
 use crate::begin::Hindrance;
 use crate::status::KeepStatus;
+use flow_front::Status;
 use flow_io::{Sink, write_all};
+use flow_keep::KeepRefusal;
 use flow_record::print_pieces;
 use itoa::Buffer;
 use std::alloc::{AllocError, Global};
@@ -16,13 +18,13 @@ pub(crate) const DISK_LINE: &[u8] = b"refused: disk\n";
 /// Writes a text, and gives the status that goes with it.
 pub(crate) fn say<K: Sink>(sink: &mut K, status: KeepStatus, text: &[u8]) -> KeepStatus
     requires counts { K.faults sink.old < 2 ^ 64 - 1 }
-    requires other { status ≢ KeepStatus.WriteFault }
+    requires other { status ≢ KeepStatus.Of Status.WriteFault }
     ensures said { IsSaid status text.now (K.held sink.old) (K.held sink.new) result }
-    ensures fault { (result ≡ KeepStatus.WriteFault) ↔ (K.faults sink.old < K.faults sink.new) }
+    ensures fault { (result ≡ KeepStatus.Of Status.WriteFault) ↔ (K.faults sink.old < K.faults sink.new) }
 {
     match write_all(sink, text) {
         Ok(()) => status,
-        Err(_) => KeepStatus::WriteFault,
+        Err(_) => KeepStatus::Of(Status::WriteFault),
     }
 }
 
@@ -45,17 +47,17 @@ pub(crate) fn print_kept(alloc: Global, count: usize) -> Result<Vec<u8>, AllocEr
 pub(crate) fn tell<K: Sink>(alloc: Global, why: Hindrance, sink: &mut K) -> KeepStatus
     requires { K.faults sink.old < 2 ^ 64 - 1 }
     ensures told { IsTold why (K.held sink.old) (K.held sink.new) result }
-    ensures fault { (result ≡ KeepStatus.WriteFault) ↔ (K.faults sink.old < K.faults sink.new) }
+    ensures fault { (result ≡ KeepStatus.Of Status.WriteFault) ↔ (K.faults sink.old < K.faults sink.new) }
 {
     match why {
         Hindrance::Open => say(sink, KeepStatus::Disk, b"refused: open\n"),
-        Hindrance::Disk => say(sink, KeepStatus::Disk, DISK_LINE),
-        Hindrance::Foreign { index } => {
+        Hindrance::Later(KeepRefusal::DiskFault) => say(sink, KeepStatus::Disk, DISK_LINE),
+        Hindrance::Later(KeepRefusal::Foreign { index }) => {
             match print_numbered(alloc, b"refused: foreign ", u64::from(index)) {
-                Ok(line) => say(sink, KeepStatus::Input, &line),
-                Err(AllocError) => KeepStatus::Memory,
+                Ok(line) => say(sink, KeepStatus::Of(Status::Input), &line),
+                Err(AllocError) => KeepStatus::Of(Status::Memory),
             }
         }
-        Hindrance::NoMemory => KeepStatus::Memory,
+        Hindrance::Later(KeepRefusal::NoMemory) => KeepStatus::Of(Status::Memory),
     }
 }

@@ -11,6 +11,7 @@ use crate::say::{DISK_LINE, print_kept, say};
 use crate::status::KeepStatus;
 use flow_core::Core;
 use flow_disk::Disk;
+use flow_front::Status;
 use flow_io::{Sink, write_all};
 use flow_keep::Keep;
 use flow_record::Command;
@@ -22,14 +23,14 @@ fn report<K: Sink>(alloc: Global, core: &Core, sink: &mut K) -> KeepStatus
     requires { K.faults sink.old < 2 ^ 64 - 1 }
     ensures said { IsReported core.now (K.held sink.old) (K.held sink.new) result }
     ensures lawful { IsLawful (schema core.now) core.now.limit core.now.history }
-    ensures fault { (result ≡ KeepStatus.WriteFault) ↔ (K.faults sink.old < K.faults sink.new) }
+    ensures fault { (result ≡ KeepStatus.Of Status.WriteFault) ↔ (K.faults sink.old < K.faults sink.new) }
     ensures no_disk { result ≢ KeepStatus.Disk }
 {
     let verdict = verdict_of(core);
     let Ok(report) = print_report(alloc, core, &verdict) else {
-        return KeepStatus::Memory;
+        return KeepStatus::Of(Status::Memory);
     };
-    say(sink, KeepStatus::from(status_of(&verdict)), &report)
+    say(sink, KeepStatus::Of(status_of(&verdict)), &report)
 }
 
 /// Goes through the session of a keep, and reports the run. The first line is written.
@@ -47,15 +48,15 @@ fn drive<K: Sink, D: Disk>(
         ⊎ IsWhole (run_of keep.old) commands.now [] result (K.held sink.old) (K.held sink.new)
         D.tells (D.seen (disk_of keep.new)) (D.image (disk_of keep.new) (D.moment (disk_of keep.new))) }
     ensures same_file { D.chosen (disk_of keep.new) ≡ D.chosen (disk_of keep.old) }
-    ensures write_fault { (result ≡ KeepStatus.WriteFault) ↔ (K.faults sink.old < K.faults sink.new) }
+    ensures write_fault { (result ≡ KeepStatus.Of Status.WriteFault) ↔ (K.faults sink.old < K.faults sink.new) }
     ensures disk_fault { result ≡ KeepStatus.Disk → D.faults (disk_of keep.old) < D.faults (disk_of keep.new) }
     ensures disk_fault_told { D.faults (disk_of keep.old) < D.faults (disk_of keep.new)
-        → (result ≡ KeepStatus.Disk) ⊎ (result ≡ KeepStatus.WriteFault) }
+        → (result ≡ KeepStatus.Disk) ⊎ (result ≡ KeepStatus.Of Status.WriteFault) }
 {
     match reply_to_all(alloc, keep, commands, sink) {
         Ok(()) => report(alloc, keep.core(), sink),
-        Err(Cut::Memory) => KeepStatus::Memory,
-        Err(Cut::Sink) => KeepStatus::WriteFault,
+        Err(Cut::Memory) => KeepStatus::Of(Status::Memory),
+        Err(Cut::Sink) => KeepStatus::Of(Status::WriteFault),
         Err(Cut::Disk) => say(sink, KeepStatus::Disk, DISK_LINE),
     }
 }
@@ -76,16 +77,16 @@ pub(crate) fn go_on<K: Sink, D: Disk>(
         ⊎ IsWhole (run_of keep.old) commands.now (kept_line (length (run_of keep.old).history)) result (K.held sink.old) (K.held sink.new)
         D.tells (D.seen (disk_of keep.new)) (D.image (disk_of keep.new) (D.moment (disk_of keep.new)))) }
     ensures same_file { D.chosen (disk_of keep.new) ≡ D.chosen (disk_of keep.old) }
-    ensures write_fault { (result ≡ KeepStatus.WriteFault) ↔ (K.faults sink.old < K.faults sink.new) }
+    ensures write_fault { (result ≡ KeepStatus.Of Status.WriteFault) ↔ (K.faults sink.old < K.faults sink.new) }
     ensures disk_fault { result ≡ KeepStatus.Disk → D.faults (disk_of keep.old) < D.faults (disk_of keep.new) }
     ensures disk_fault_told { D.faults (disk_of keep.old) < D.faults (disk_of keep.new)
-        → (result ≡ KeepStatus.Disk) ⊎ (result ≡ KeepStatus.WriteFault) }
+        → (result ≡ KeepStatus.Disk) ⊎ (result ≡ KeepStatus.Of Status.WriteFault) }
 {
     let Ok(line) = print_kept(alloc, keep.core().history().len()) else {
-        return KeepStatus::Memory;
+        return KeepStatus::Of(Status::Memory);
     };
     let Ok(()) = write_all(sink, &line) else {
-        return KeepStatus::WriteFault;
+        return KeepStatus::Of(Status::WriteFault);
     };
     drive(alloc, keep, commands, sink)
 }

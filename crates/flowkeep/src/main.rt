@@ -3,7 +3,7 @@
 
 use flow_disk::FileDisk;
 use flow_io::{StdSink, StdSource};
-use flow_keep_cli::{KeepStatus, flowkeep};
+use flow_keep_cli::{Status, flowkeep};
 use std::alloc::AllocError;
 use std::process::ExitCode;
 use std::rt::Env;
@@ -20,7 +20,7 @@ fn words(rt: &(impl Env + AllocGlobal)) -> Result<Vec<String>, AllocError> {
 
 fn main(rt: HostRuntime) -> ExitCode {
     let Ok(words) = words(&rt) else {
-        return ExitCode::from(KeepStatus::Memory.code());
+        return ExitCode::from(Status::Memory.code());
     };
     let mut source = StdSource::new(rt.stdin());
     let mut sink = StdSink::new(rt.stdout());

@@ -15,7 +15,7 @@ returns-in-Ok-clause-course g c =
     let held = g.K.Sink.held c.args.sink.now in
     let held' = g.K.Sink.held c.go_on-status.new.sink in
     let result = c.go_on-status.result in
-    course_begun g.D.Disk.tells g.D.Disk.moment g.D.Disk.image g.D.Disk.synced g.D.Disk.seen g.D.Disk.faults g.D.Disk.chosen g.D.Disk.file_at c.args.call.path.now c.args.asked.workflow c.args.call.steps c.args.asked.commands.items
+    course_begun g.D.Disk.tells g.D.Disk.moment g.D.Disk.image g.D.Disk.synced g.D.Disk.seen g.D.Disk.faults g.D.Disk.chosen g.D.Disk.file_at c.args.call.path.now c.args.asked.prepared.workflow c.args.call.steps c.args.asked.commands.items
     c.args.disk c.into_disk.result held held' result begun left first c.in-Ok.ensures.run c.in-Ok.ensures.found c.in-Ok.ensures.begun c.in-Ok.ensures.no_fault c.in-Ok.ensures.file c.go_on-status.ensures.same_file c.into_disk.ensures.disk
     (subst (λ (commands : List Command).
     ((left ≡ begun) × IsFirstLine first.history held held' result)

@@ -12,9 +12,9 @@ returns g c =
     let last = c.run_crew-book.result.0 in
     let is = c.into_core-core.ensures.run in
     let ran =
-    run_of g.G.Gate.gives c.args.prepared.workflow c.args.self.now.steps c.args.self.now.workers last c.run_crew-book.result.1
+    run_of g.G.Gate.gives c.args.prepared.workflow c.args.self.now.request.steps c.args.self.now.request.workers last c.run_crew-book.result.1
     (c.run_crew-book.ensures.same.0 ∙ ap (λ (r : Run). r.definition) begun) (c.run_crew-book.ensures.same.1 ∙ ap (λ (r : Run). r.limit) begun)
     c.run_crew-book.ensures.end (subst (λ (r : Run). IsLawful (schema r) r.limit r.history) is c.history.ensures.lawful)
     c.into_core-core.ensures.by_workers c.run_crew-book.ensures.callers in
-    subst (λ (v : Verdict). HasRun g.G.Gate.gives c.args.prepared.workflow c.args.self.now.steps c.args.self.now.workers c.into_core-core.result v) (sym c.verdict_of.ensures)
-    (subst (λ (r : Run). HasRun g.G.Gate.gives c.args.prepared.workflow c.args.self.now.steps c.args.self.now.workers r (verdict_of c.run_crew-book.result.1)) (sym is) ran)
+    subst (λ (v : Verdict). HasRun g.G.Gate.gives c.args.prepared.workflow c.args.self.now.request.steps c.args.self.now.request.workers c.into_core-core.result v) (sym c.verdict_of.ensures)
+    (subst (λ (r : Run). HasRun g.G.Gate.gives c.args.prepared.workflow c.args.self.now.request.steps c.args.self.now.request.workers r (verdict_of c.run_crew-book.result.1)) (sym is) ran)

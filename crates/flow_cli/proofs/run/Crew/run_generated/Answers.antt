@@ -8,6 +8,7 @@ use Rattle.flow_cli.proofs.run.Crew.run_generated.Goals as goal
 
 pub returns : goal.returns
 returns g c =
+    let request = c.args.self.now.request in
     let (meant, run, means) = c.in_ok-core.ensures in
     let same = ap (λ (s : Summary). s.verdict) c.summary_of-summary.ensures in (
       finding.summarized c.summary_of-summary.result meant,
@@ -18,7 +19,7 @@ returns g c =
           c.summary_of-summary.result,
           (
             meant,
-            summarizes g.G.Gate.gives c.in_ok-workflow.workflow c.args.seed c.args.size c.args.self.now.steps c.args.self.now.workers c.in-Ok.compiled c.in_ok-core.core
+            summarizes g.G.Gate.gives c.in_ok-workflow.workflow request.seed request.size request.steps request.workers c.in-Ok.compiled c.in_ok-core.core
                 c.in_ok-core.verdict meant c.counts-counts.result c.summary_of-summary.result c.in-Ok.ensures c.counts-counts.ensures.live run means
                 c.counts-counts.ensures.counts c.summary_of-summary.ensures,
             refl,

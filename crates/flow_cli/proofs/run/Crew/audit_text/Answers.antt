@@ -6,7 +6,7 @@ use Rattle.flow_front.specs.Refusal.{the_journals}
 use Rattle.flow_front.proofs.Stages.{goes_on}
 use Rattle.flow_cli.specs.Finding.{IsOutputOf}
 use Rattle.flow_cli.specs.Audit.{HasJournals, AuditsSaid}
-use Rattle.flow_cli.proofs.audit.Auditors.audit_text.Goals as goal
+use Rattle.flow_cli.proofs.run.Crew.audit_text.Goals as goal
 
 pub returns : goal.returns
 returns g c =

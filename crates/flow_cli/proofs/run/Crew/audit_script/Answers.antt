@@ -1,5 +1,5 @@
 use Rattle.std.proofs.Common.{inr}
-use Rattle.flow_cli.proofs.audit.Auditors.audit_script.Goals as goal
+use Rattle.flow_cli.proofs.run.Crew.audit_script.Goals as goal
 
 pub returns : goal.returns
 returns g c =
