@@ -7,12 +7,10 @@ use Rattle.flow_workflow.specs.Definition.{Definition}
 use Rattle.flow_expand.specs.Workflows.{IsExpanded}
 use Rattle.flow_core.specs.Run.{Run, schema}
 use Rattle.flow_core.specs.Lawful.{IsLawful}
-use Rattle.flow_crew.specs.declared.ends.End.{End}
-use Rattle.flow_crew.specs.declared.ends.End.TheVariants as end
+use Rattle.flow_core.specs.declared.end.End.{End}
 use Rattle.flow_crew.specs.Ends.{IsEnd}
 use Rattle.flow_crew.specs.Invariant.{IsByWorkers}
-use Rattle.flow_reply.specs.declared.verdict.Verdict.{Verdict}
-use Rattle.flow_reply.specs.declared.verdict.Verdict.TheVariants.{Committed, Stuck, NoOther, Spent}
+use Rattle.flow_reply.specs.declared.verdict.Verdict.TheVariants.{Ended}
 use Rattle.flow_reply.specs.Conclusion.{Means}
 use Rattle.flow_reply.specs.Report.{IsReport}
 use Rattle.flow_findings.specs.declared.refused.Refused.{Refused}
@@ -22,13 +20,6 @@ use Rattle.flow_front.specs.Refusal.{the_source, IsCause}
 use Rattle.flow_front.specs.Input.{IsInputOf}
 use Rattle.flow_front.specs.Prepared.{IsNotPrepared}
 use Rattle.flow_reply.specs.Verdict.{ended}
-
--- an end in the words of reports
-abbrev pub verdict_of : End → Verdict
-verdict_of end.Committed = Committed
-verdict_of end.Stuck = Stuck
-verdict_of (end.NoOther leaf) = NoOther leaf
-verdict_of end.Spent = Spent
 
 -- The text is the report of a run of this workflow by workers, in so many entries at most, and the status that of what it came to.
 pub record IsReported (w : Definition) (steps : ℕ) (status : Status) (text : List ℕ) : Type 0 where
@@ -41,10 +32,8 @@ pub record IsReported (w : Definition) (steps : ℕ) (status : Status) (text : L
   pub by_workers : IsByWorkers (λ call outcome. true) last
   pub came_to : End
   pub stands : IsEnd last came_to
-  pub verdict : Verdict
-  pub verdict_is : verdict ≡ verdict_of came_to
-  pub status_is : (meant : model.Verdict) → Means last verdict meant → status ≡ ended meant
-  pub report : IsReport last verdict text
+  pub status_is : (meant : model.Verdict) → Means last (Ended came_to) meant → status ≡ ended meant
+  pub report : IsReport last (Ended came_to) text
 
 -- a refusal with such a cause is told, events by these names
 abbrev pub IsRefusal : List (List ℕ) → (Refused → Type 0) → Status → List ℕ → Type 0

@@ -2,7 +2,7 @@
 #![tactic(auto)]
 
 ghost use Rattle.std.specs.Prelude.{◌≡◌, ◌<◌, ◌-◌, ◌^◌, IfOk};
-ghost use Rattle.embedding.specs.Answer.{verdict_of, IsReported, IsAnswer};
+ghost use Rattle.embedding.specs.Answer.{IsReported, IsAnswer};
 ghost use Rattle.flow_plan.specs.Compilation.{IsCompiled};
 ghost use Rattle.flow_workflow.specs.Definition.{schema_of};
 
@@ -10,7 +10,7 @@ mod desk;
 
 use desk::{Desk, DeskGate};
 use flow_core::Core;
-use flow_crew::{Book, End, run_crew};
+use flow_crew::{Book, run_crew};
 use flow_front::{Output, Prepared, Status, prepare, read_input, refuse};
 use flow_io::{Source, StdSink, StdSource, write_all};
 use flow_reply::{Verdict, print_report, status_of};
@@ -36,18 +36,6 @@ const STEPS: u32 = 1000;
 /// many as there are tasks that may be at work at once.
 const WORKERS: u32 = 1;
 
-/// What a run came to, in the words of reports.
-fn verdict_of(end: End) -> Verdict
-    ensures { result ≡ verdict_of end }
-{
-    match end {
-        End::Committed => Verdict::Committed,
-        End::Stuck => Verdict::Stuck,
-        End::NoOther(leaf) => Verdict::NoOther(leaf),
-        End::Spent => Verdict::Spent,
-    }
-}
-
 /// Runs a workflow at the desk, and reports the run once it is over.
 fn run<R: Threads + Wait + Sync>(
     rt: &R,
@@ -64,7 +52,7 @@ fn run<R: Threads + Wait + Sync>(
     let core = book.into_core();
     // what a core keeps of its history
     let _ = core.history();
-    let verdict = verdict_of(end);
+    let verdict = Verdict::Ended(end);
     let text = print_report(alloc, &core, &verdict);
     drop(core);
     Ok(Output {

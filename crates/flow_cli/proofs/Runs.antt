@@ -12,24 +12,25 @@ use Rattle.flow_core.specs.Run.{Run, schema, now}
 use Rattle.flow_core.specs.Lawful.{IsLawful}
 use Rattle.flow_core.specs.Next.{IsWaiting}
 use Rattle.flow_core.proofs.RisingLists.{just_as}
-use Rattle.flow_crew.specs.declared.ends.End.{End}
-use Rattle.flow_crew.specs.declared.ends.End.TheVariants as end
+use Rattle.flow_core.specs.declared.end.End.{End}
+use Rattle.flow_core.specs.declared.end.End.TheVariants as end
 use Rattle.flow_crew.specs.Ends.{IsEnd}
 use Rattle.flow_crew.specs.Invariant.{IsByWorkers}
 use Rattle.flow_plan.specs.declared.counts.Counts.{Counts}
 use Rattle.flow_plan.specs.Compilation.{Compilation, IsCompiled}
 use Rattle.flow_reply.specs.declared.summary.Summary.{Summary}
 use Rattle.flow_reply.specs.declared.verdict.Verdict.{Verdict}
+use Rattle.flow_reply.specs.declared.verdict.Verdict.TheVariants.{Ended}
 use Rattle.flow_reply.specs.Conclusion.{Means, verdict_text}
 use Rattle.flow_reply.specs.Summary.{summary_object, IsSummary}
 use Rattle.flow_reply.proofs.OneReply.{one_words}
 use Rattle.flow_cli.specs.Finding.{summary_line}
 use Rattle.flow_cli.specs.Large.{summary_of, IsSummaryOf}
-use Rattle.flow_cli.specs.Run.{verdict_of, IsRunOf, HasRun}
+use Rattle.flow_cli.specs.Run.{IsRunOf, HasRun}
 
 -- the verdict that an end is
 meant_by : (r : Run) (e : End) → IsEnd r e →
-    (meant : model.Verdict) × Means r (verdict_of e) meant × model.IsRunVerdict (schema r) r.limit r.history meant
+    (meant : model.Verdict) × Means r (Ended e) meant × model.IsRunVerdict (schema r) r.limit r.history meant
 meant_by r end.Committed h = (model.committed, refl, h)
 meant_by r end.Spent h = (model.spent, refl, h)
 meant_by r (end.NoOther leaf) h = (model.no_other leaf, refl, h)
@@ -38,7 +39,7 @@ meant_by r end.Stuck (waiting, h) =
 
 pub run_of : (gives : Call → Outcome → Bool) (w : Definition) (steps workers : ℕ) (r : Run) (e : End) → r.definition ≡ w → r.limit ≡ steps → IsEnd r e →
     IsLawful (schema r) r.limit r.history → IsByWorkers gives r → Each (λ (entry : Entry). entry.by ≤ workers) r.history →
-    HasRun gives w steps workers r (verdict_of e)
+    HasRun gives w steps workers r (Ended e)
 run_of gives w steps workers r e definition limit is lawful by callers =
     let (meant, means, stands) = meant_by r e is in (
       meant,

@@ -7,24 +7,14 @@ use Rattle.flow_model.specs.Lists.{Each}
 use Rattle.flow_model.specs.Verdict as model
 use Rattle.flow_core.specs.Run.{Run}
 use Rattle.flow_core.specs.Lawful.{IsLawful}
-use Rattle.flow_crew.specs.declared.ends.End.{End}
-use Rattle.flow_crew.specs.declared.ends.End.TheVariants as end
 use Rattle.flow_crew.specs.Invariant.{IsByWorkers}
 use Rattle.flow_form.specs.Script.{Said}
 use Rattle.flow_workflow.specs.Definition.{Definition, schema_of}
 use Rattle.flow_findings.specs.declared.refused.Refused.{Refused}
 use Rattle.flow_reply.specs.declared.verdict.Verdict.{Verdict}
-use Rattle.flow_reply.specs.declared.verdict.Verdict.TheVariants as verdict
 use Rattle.flow_reply.specs.Conclusion.{Means}
 use Rattle.flow_front.specs.Stages.{Prepares}
 use Rattle.flow_cli.specs.Finding.{Finding, ran}
-
--- an end as a verdict
-abbrev pub verdict_of : End → Verdict
-verdict_of end.Committed = verdict.Committed
-verdict_of end.Stuck = verdict.Stuck
-verdict_of (end.NoOther leaf) = verdict.NoOther leaf
-verdict_of end.Spent = verdict.Spent
 
 -- The run is one of this workflow by so many workers, in so many steps at most, where outcomes pass the test of the gate,
 -- and it came to this verdict. Of its history the headline holds: it is lawful.

@@ -5,10 +5,10 @@ ghost use Rattle.flow_workflow.specs.Definition.{schema_of};
 ghost use Rattle.flow_plan.specs.Compilation.{IsCompiled};
 ghost use Rattle.flow_cli.specs.Finding.{IsFound, Answers};
 ghost use Rattle.flow_words.specs.Words.{IsWithin};
-ghost use Rattle.flow_cli.specs.Run.{verdict_of, HasRun, RunsWorkflow, RunsSaid};
+ghost use Rattle.flow_cli.specs.Run.{HasRun, RunsWorkflow, RunsSaid};
 
 use flow_core::Core;
-use flow_crew::{Book, End, run_crew};
+use flow_crew::{Book, run_crew};
 use flow_form::Script;
 use flow_front::{Output, Prepared, Stop, prepare};
 use flow_gate::Gate;
@@ -25,18 +25,6 @@ pub(crate) struct Crew<'a, R, G: Gate> {
     pub(crate) gate: &'a G,
     pub(crate) request: Request,
     ghost within: { IsWithin request },
-}
-
-/// The verdict of an end.
-fn verdict_of(end: End) -> Verdict
-    ensures { result ≡ verdict_of end }
-{
-    match end {
-        End::Committed => Verdict::Committed,
-        End::Stuck => Verdict::Stuck,
-        End::NoOther(leaf) => Verdict::NoOther(leaf),
-        End::Spent => Verdict::Spent,
-    }
 }
 
 impl<'a, R: Threads + Wait + Sync, G: Gate> Crew<'a, R, G> {
@@ -60,7 +48,7 @@ impl<'a, R: Threads + Wait + Sync, G: Gate> Crew<'a, R, G> {
         let core = book.into_core();
         // what the core keeps of the history
         let _ = core.history();
-        Ok((core, verdict_of(end)))
+        Ok((core, Verdict::Ended(end)))
     }
 
     /// Runs a compiled workflow, and reports the run once it is over.

@@ -8,8 +8,8 @@ use Rattle.flow_model.specs.Verdict as model
 use Rattle.flow_laws.specs.WellFormed.{IsWellFormed, IsConsistent}
 use Rattle.flow_laws.specs.Histories.{NeverWaits}
 use Rattle.flow_core.specs.Run.{Run, schema}
-use Rattle.flow_crew.specs.declared.ends.End.{End}
-use Rattle.flow_crew.specs.declared.ends.End.TheVariants as end
+use Rattle.flow_core.specs.declared.end.End.{End}
+use Rattle.flow_core.specs.declared.end.End.TheVariants as end
 use Rattle.flow_crew.specs.Done.{AllSucceeds, NeverFails}
 use Rattle.flow_crew.specs.Ends.{IsEnd}
 use Rattle.flow_crew.proofs.DoneRuns.{are_plain, committed}

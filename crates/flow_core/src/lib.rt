@@ -5,6 +5,7 @@ mod ask;
 mod asked;
 mod asks;
 mod claim;
+mod end;
 mod leaf;
 mod make;
 mod next;
@@ -15,6 +16,7 @@ mod single;
 
 pub use ask::{Told, play};
 pub use asked::Asked;
+pub use end::End;
 pub use flow_ask::{Answer, Ask, Made, Refusal};
 pub use flow_model::{Call, FailEffect};
 pub use next::Next;

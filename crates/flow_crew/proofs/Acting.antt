@@ -25,7 +25,7 @@ use Rattle.flow_core.specs.Answers.{IsOver, Takes, Performs, Commits, Rewinds, P
 use Rattle.flow_core.specs.Next.{IsNext}
 use Rattle.flow_core.proofs.SingleLemmas.{none_event, none_other, other_event, not_both}
 use Rattle.flow_core.proofs.NextLemmas.{none_current}
-use Rattle.flow_crew.specs.declared.ends.End.TheVariants as end
+use Rattle.flow_core.specs.declared.end.End.TheVariants as end
 use Rattle.flow_crew.specs.Ends.{HasNoEnd}
 use Rattle.flow_crew.specs.Moves.{IsOut}
 use Rattle.flow_crew.proofs.Endings.{goes_on, stuck_ends}

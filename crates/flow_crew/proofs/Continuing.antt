@@ -15,8 +15,8 @@ use Rattle.flow_core.specs.declared.refusal.RewindRefusal.TheVariants as rewind
 use Rattle.flow_core.specs.Run.{Run, schema, now, with_entry, HasEntryLeft}
 use Rattle.flow_core.specs.Answers.{IsUnanswered, Rewinds}
 use Rattle.flow_core.specs.Next.{IsNext}
-use Rattle.flow_crew.specs.declared.ends.Move.{Move}
-use Rattle.flow_crew.specs.declared.ends.Move.TheVariants.{Wait, Over}
+use Rattle.flow_crew.specs.declared.moves.Move.{Move}
+use Rattle.flow_crew.specs.declared.moves.Move.TheVariants.{Wait, Over}
 use Rattle.flow_crew.specs.Ends.{HasEnd, HasNoEnd}
 use Rattle.flow_crew.specs.Moves.{move_after, IsBegun, IsOut, IsRecorded, IsPosted, IsContinued}
 use Rattle.flow_crew.proofs.Acting.{refused_late}

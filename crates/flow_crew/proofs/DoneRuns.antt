@@ -33,8 +33,8 @@ use Rattle.flow_core.proofs.JournalLemmas.{within_free}
 use Rattle.flow_core.proofs.Calls.{number_in, note_in}
 use Rattle.flow_gate.specs.Gate.{is_same}
 use Rattle.flow_gate.specs.NoteGate.{announced, outcome_by}
-use Rattle.flow_crew.specs.declared.ends.End.{End}
-use Rattle.flow_crew.specs.declared.ends.End.TheVariants as end
+use Rattle.flow_core.specs.declared.end.End.{End}
+use Rattle.flow_core.specs.declared.end.End.TheVariants as end
 use Rattle.flow_crew.specs.Ends.{IsEnd}
 use Rattle.flow_crew.proofs.Histories.{AreRunSteps}
 use Rattle.flow_crew.specs.Done.{IsPlainStep, IsCallFor, NeverFails, AllSucceeds, HoldsEventsAlone, DeclaresSuccess}

@@ -13,8 +13,8 @@ use Rattle.flow_model.proofs.Lists.{last_of}
 use Rattle.flow_core.specs.Run.{Run, schema, now, IsUncommitted, HasEntryLeft}
 use Rattle.flow_core.specs.Answers.{IsLeast}
 use Rattle.flow_core.proofs.NextLemmas.{none_current}
-use Rattle.flow_crew.specs.declared.ends.End.{End}
-use Rattle.flow_crew.specs.declared.ends.End.TheVariants as end
+use Rattle.flow_core.specs.declared.end.End.{End}
+use Rattle.flow_core.specs.declared.end.End.TheVariants as end
 use Rattle.flow_crew.specs.Ends.{IsEnd, HasEnd, HasNoEnd}
 use Rattle.flow_laws.proofs.SoundStates.{legal_length}
 use Rattle.flow_crew.proofs.Histories.{not_last_kept}

@@ -13,8 +13,8 @@ use Rattle.flow_core.specs.declared.refusal.PostRefusal.{PostRefusal}
 use Rattle.flow_core.specs.Run.{Run, schema, with_entry}
 use Rattle.flow_core.specs.Next.{IsNext}
 use Rattle.flow_core.proofs.SingleLemmas.{other_event, nexts_once, posts_done_once, posts_failed_once, rewinds_once}
-use Rattle.flow_crew.specs.declared.ends.Move.{Move}
-use Rattle.flow_crew.specs.declared.ends.Move.TheVariants.{Wait}
+use Rattle.flow_crew.specs.declared.moves.Move.{Move}
+use Rattle.flow_crew.specs.declared.moves.Move.TheVariants.{Wait}
 use Rattle.flow_crew.specs.Moves.{IsNextStep, Advances, move_after, Tells, IsBegun, GoesBack, IsRecorded, IsPosted, IsPostedAndBegun}
 
 -- ---- what `begin` does

@@ -16,7 +16,7 @@ use Rattle.flow_core.specs.Run.{Run, schema, now, with_entry, IsUncommitted, Has
 use Rattle.flow_core.specs.Answers.{Rewinds}
 use Rattle.flow_core.specs.Next.{IsNext}
 use Rattle.flow_core.proofs.Steps.{state_after-append}
-use Rattle.flow_crew.specs.declared.ends.Move.{Move}
+use Rattle.flow_crew.specs.declared.moves.Move.{Move}
 use Rattle.flow_crew.specs.Ends.{HasNoEnd}
 use Rattle.flow_crew.specs.Moves.{IsNextStep, Advances, IsBegun, IsOut, IsPosted, IsRecorded}
 use Rattle.flow_crew.specs.Invariant.{IsByWorkers}

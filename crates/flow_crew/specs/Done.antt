@@ -17,8 +17,8 @@ use Rattle.flow_laws.specs.Histories.{NeverWaits}
 use Rattle.flow_core.specs.Run.{Run, schema, now}
 use Rattle.flow_gate.specs.Gate.{is_same}
 use Rattle.flow_gate.specs.NoteGate.{announced}
-use Rattle.flow_crew.specs.declared.ends.End.{End}
-use Rattle.flow_crew.specs.declared.ends.End.TheVariants as end
+use Rattle.flow_core.specs.declared.end.End.{End}
+use Rattle.flow_core.specs.declared.end.End.TheVariants as end
 use Rattle.flow_crew.specs.Ends.{IsEnd}
 use Rattle.flow_crew.specs.Invariant.{IsByWorkers}
 

@@ -2,8 +2,8 @@
 use Rattle.std.specs.Prelude.{ℕ, List}
 use Rattle.flow_model.specs.Verdict.{IsRunVerdict, committed, spent, no_other, stuck}
 use Rattle.flow_core.specs.Run.{Run, schema}
-use Rattle.flow_crew.specs.declared.ends.End.{End}
-use Rattle.flow_crew.specs.declared.ends.End.TheVariants.{Committed, Stuck, NoOther, Spent}
+use Rattle.flow_core.specs.declared.end.End.{End}
+use Rattle.flow_core.specs.declared.end.End.TheVariants.{Committed, Stuck, NoOther, Spent}
 
 -- this verdict stands
 abbrev pub IsEnd : Run → End → Type 0

@@ -7,7 +7,7 @@ use Rattle.flow_model.specs.Verdict.{IsRunLegal, IsDriven}
 use Rattle.flow_core.specs.declared.next.Next.{Next}
 use Rattle.flow_core.specs.Run.{Run, schema}
 use Rattle.flow_core.specs.Next.{IsNext}
-use Rattle.flow_crew.specs.declared.ends.End.{End}
+use Rattle.flow_core.specs.declared.end.End.{End}
 use Rattle.flow_crew.specs.Ends.{IsEnd, HasNoEnd}
 
 -- workers may have made the history, with gates whose answers pass the test

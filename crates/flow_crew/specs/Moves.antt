@@ -19,8 +19,8 @@ use Rattle.flow_core.specs.declared.refusal.RewindRefusal.{RewindRefusal}
 use Rattle.flow_core.specs.Run.{Run, schema, now, with_entry}
 use Rattle.flow_core.specs.Answers.{next_claim, IsUnanswered, PostsDone, PostsFailed, Rewinds}
 use Rattle.flow_core.specs.Next.{IsNext}
-use Rattle.flow_crew.specs.declared.ends.Move.{Move}
-use Rattle.flow_crew.specs.declared.ends.Move.TheVariants.{Perform, Went, Wait, Over}
+use Rattle.flow_crew.specs.declared.moves.Move.{Move}
+use Rattle.flow_crew.specs.declared.moves.Move.TheVariants.{Perform, Went, Wait, Over}
 use Rattle.flow_crew.specs.Ends.{HasEnd, HasNoEnd}
 
 -- the step by which a run goes on: an event's leaf is taken and another is done, a whole execution is committed, and a run

@@ -3,9 +3,9 @@ ghost use Rattle.flow_crew.specs.Ends.{IsEnd, HasNoEnd};
 ghost use Rattle.flow_crew.specs.Invariant.{IsByWorkers};
 ghost use Rattle.flow_crew.specs.Moves.{IsBegun, IsPosted, IsContinued};
 
-use crate::ends::{End, Move};
+use crate::moves::Move;
 use crate::tracked::Tracked;
-use flow_core::Core;
+use flow_core::{Core, End};
 use flow_gate::Gate;
 use flow_model::{Call, Outcome};
 use std::marker::Model;

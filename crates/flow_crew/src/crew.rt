@@ -8,9 +8,10 @@ ghost use Rattle.flow_crew.specs.Ends.{IsEnd};
 ghost use Rattle.flow_crew.specs.Moves.{IsContinued, IsOfWorker, IsOfCrew};
 
 use crate::book::Book;
-use crate::ends::{End, Move};
 use crate::idle::{AskWhenIdle, Idle};
 use crate::jobs::{Post, PostAndBegin};
+use crate::moves::Move;
+use flow_core::End;
 use flow_gate::Gate;
 use flow_model::Call;
 use flow_turn::{NewRefusal, Pass, TurnLock};

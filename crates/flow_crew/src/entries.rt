@@ -8,7 +8,7 @@ ghost use Rattle.flow_core.specs.declared.next.Next.TheVariants as nexts;
 ghost use Rattle.flow_crew.specs.Ends.{HasNoEnd};
 ghost use Rattle.flow_crew.specs.Moves.{Advances, move_after, IsOut, IsRecorded};
 
-use crate::ends::Move;
+use crate::moves::Move;
 use flow_core::{Core, Next};
 use flow_model::{Call, FailEffect, Outcome};
 

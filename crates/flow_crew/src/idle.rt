@@ -2,8 +2,8 @@
 ghost use Rattle.flow_crew.specs.Moves.{IsBegun};
 
 use crate::book::Book;
-use crate::ends::Move;
 use crate::jobs::Begin;
+use crate::moves::Move;
 use crossbeam_utils::sync::{EventCount, Key};
 use flow_gate::Gate;
 use flow_turn::Job;

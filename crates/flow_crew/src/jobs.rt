@@ -3,7 +3,7 @@ ghost use Rattle.std.specs.Prelude.{◌≡◌, true};
 ghost use Rattle.flow_crew.specs.Moves.{IsBegun, IsPosted, IsPostedAndBegun};
 
 use crate::book::Book;
-use crate::ends::Move;
+use crate::moves::Move;
 use flow_gate::Gate;
 use flow_model::{Call, Entry, Outcome};
 use flow_turn::{Job, Kept};

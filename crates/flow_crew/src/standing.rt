@@ -6,8 +6,7 @@ ghost use Rattle.flow_core.specs.Run.{schema, now};
 ghost use Rattle.flow_core.specs.Next.{IsNext};
 ghost use Rattle.flow_crew.specs.Ends.{IsEnd, HasNoEnd};
 
-use crate::ends::End;
-use flow_core::{Core, Next};
+use flow_core::{Core, End, Next};
 
 /// What the run came to, where `failed` is the leaf of the kept failure with which it ends, if it ends so, and what it does
 /// next, where that had to be known. The leaves are looked at only where no claim is out.

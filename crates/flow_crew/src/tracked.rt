@@ -4,10 +4,10 @@ ghost use Rattle.flow_core.specs.Run.{schema};
 ghost use Rattle.flow_crew.specs.Ends.{IsEnd, HasNoEnd};
 ghost use Rattle.flow_crew.specs.Moves.{IsBegun, IsPosted, IsOut};
 
-use crate::ends::{End, Move};
 use crate::entries::{go_on, tell};
+use crate::moves::Move;
 use crate::standing::{look, stand};
-use flow_core::{Core, Next};
+use flow_core::{Core, End, Next};
 use flow_model::{Call, Outcome};
 use std::marker::Model;
 

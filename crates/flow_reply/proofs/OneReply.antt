@@ -15,6 +15,7 @@ use Rattle.flow_record.specs.declared.command.Command.{Command}
 use Rattle.flow_record.specs.declared.command.Command.TheVariants as command
 use Rattle.flow_reply.specs.declared.verdict.Verdict.{Verdict}
 use Rattle.flow_reply.specs.declared.verdict.Verdict.TheVariants as came
+use Rattle.flow_core.specs.declared.end.End.TheVariants as end
 use Rattle.flow_reply.specs.Answer.{answer_text}
 use Rattle.flow_reply.specs.Conclusion.{Means, IsVerdictText, verdict_text}
 use Rattle.flow_reply.specs.Facts.{spaced_facts}
@@ -65,7 +66,7 @@ drives_once by r a b session one two p q = goes_once _ (λ s m n. replies_once b
 -- ---- reports
 
 one_meaning : (r : Run) (v : Verdict) (a b : verdict.Verdict) → Means r v a → Means r v b → a ≡ b
-one_meaning r came.Stuck a b (xs, ja, p) (ys, jb, q) = p ∙ ap verdict.stuck (one_list (IsWaiting r) xs ys ja jb) ∙ sym q
+one_meaning r (came.Ended end.Stuck) a b (xs, ja, p) (ys, jb, q) = p ∙ ap verdict.stuck (one_list (IsWaiting r) xs ys ja jb) ∙ sym q
 one_meaning r v a b p q = p ∙ sym q
 
 pub one_words : (r : Run) (v : Verdict) (a b : List ℕ) → IsVerdictText r v a → IsVerdictText r v b → a ≡ b

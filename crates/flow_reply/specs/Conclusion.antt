@@ -4,18 +4,19 @@ use Rattle.std.specs.Fmt.{decimal}
 use Rattle.flow_model.specs.Verdict as model
 use Rattle.flow_core.specs.Run.{Run}
 use Rattle.flow_core.specs.Next.{IsWaiting}
+use Rattle.flow_core.specs.declared.end.End.TheVariants as end
 use Rattle.flow_reply.specs.declared.conclusion.Conclusion.{Conclusion}
 use Rattle.flow_reply.specs.declared.conclusion.Conclusion.TheVariants as conclusion
 use Rattle.flow_reply.specs.declared.verdict.Verdict.{Verdict}
-use Rattle.flow_reply.specs.declared.verdict.Verdict.TheVariants.{Committed, Spent, NoOther, Stuck, Unfinished}
+use Rattle.flow_reply.specs.declared.verdict.Verdict.TheVariants.{Ended, Unfinished}
 use Rattle.flow_reply.specs.Words.{numbers_text}
 
 -- a verdict of the code, as one of the definitions; where the run is stuck, with the leaves that wait
 abbrev pub Means : Run → Verdict → model.Verdict → Type 0
-Means r Committed meant = meant ≡ model.committed
-Means r Spent meant = meant ≡ model.spent
-Means r (NoOther leaf) meant = meant ≡ model.no_other leaf
-Means r Stuck meant = (leaves : List ℕ) × model.AreJust (IsWaiting r) leaves × (meant ≡ model.stuck leaves)
+Means r (Ended end.Committed) meant = meant ≡ model.committed
+Means r (Ended end.Spent) meant = meant ≡ model.spent
+Means r (Ended (end.NoOther leaf)) meant = meant ≡ model.no_other leaf
+Means r (Ended end.Stuck) meant = (leaves : List ℕ) × model.AreJust (IsWaiting r) leaves × (meant ≡ model.stuck leaves)
 Means r Unfinished meant = meant ≡ model.unfinished
 
 -- a conclusion as a verdict of the definitions

@@ -4,7 +4,7 @@ ghost use Rattle.flow_reply.specs.Conclusion.{meaning_of, Means, verdict_text};
 
 use crate::verdict::Verdict;
 use crate::words::{print_number, print_numbers, print_word};
-use flow_core::Core;
+use flow_core::{Core, End};
 use std::alloc::{AllocError, Global};
 
 /// What a run came to: its verdict, with all leaves that wait where it is stuck.
@@ -44,10 +44,10 @@ pub fn conclusion_of(
     ensures { IfOk result (λ conclusion. Means core.now verdict.now (meaning_of conclusion)) }
 {
     match *verdict {
-        Verdict::Committed => Ok(Conclusion::Committed),
-        Verdict::Spent => Ok(Conclusion::Spent),
-        Verdict::NoOther(leaf) => Ok(Conclusion::NoOther(leaf)),
-        Verdict::Stuck => Ok(Conclusion::Stuck(core.waiting(alloc)?)),
+        Verdict::Ended(End::Committed) => Ok(Conclusion::Committed),
+        Verdict::Ended(End::Spent) => Ok(Conclusion::Spent),
+        Verdict::Ended(End::NoOther(leaf)) => Ok(Conclusion::NoOther(leaf)),
+        Verdict::Ended(End::Stuck) => Ok(Conclusion::Stuck(core.waiting(alloc)?)),
         Verdict::Unfinished => Ok(Conclusion::Unfinished),
     }
 }

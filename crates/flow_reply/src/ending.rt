@@ -6,7 +6,7 @@ ghost use Rattle.flow_reply.specs.Conclusion.{Means};
 ghost use Rattle.flow_reply.specs.Verdict.{ended};
 
 use crate::verdict::Verdict;
-use flow_core::Core;
+use flow_core::{Core, End};
 use flow_front::Status;
 
 /// What a driven run came to.
@@ -16,9 +16,9 @@ pub fn verdict_of(core: &Core) -> Verdict
 {
     let entries = core.history().len();
     if core.committed() {
-        Verdict::Committed
+        Verdict::Ended(End::Committed)
     } else if entries == core.limit() as usize {
-        Verdict::Spent
+        Verdict::Ended(End::Spent)
     } else {
         Verdict::Unfinished
     }
@@ -29,8 +29,8 @@ pub fn status_of(verdict: &Verdict) -> Status
     ensures { (r : Run) (meant : model.Verdict) → Means r verdict.now meant → result ≡ ended meant }
 {
     match verdict {
-        Verdict::Committed => Status::Fine,
-        Verdict::Spent => Status::Spent,
-        Verdict::NoOther(_) | Verdict::Stuck | Verdict::Unfinished => Status::No,
+        Verdict::Ended(End::Committed) => Status::Fine,
+        Verdict::Ended(End::Spent) => Status::Spent,
+        Verdict::Ended(End::NoOther(_) | End::Stuck) | Verdict::Unfinished => Status::No,
     }
 }

@@ -1,12 +1,8 @@
-/// What a run came to.
+use flow_core::End;
+
+/// What a run came to, where it came to an end.
 #[derive(Clone, Copy)]
 pub enum Verdict {
-    Committed,
-    /// The history is as long as the limit.
-    Spent,
-    /// The task of this leaf failed, which every execution needs.
-    NoOther(u32),
-    /// Nothing is left but leaves that wait.
-    Stuck,
+    Ended(End),
     Unfinished,
 }

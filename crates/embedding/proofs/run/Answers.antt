@@ -15,8 +15,6 @@ returns g c =
       by_workers = subst (IsByWorkers (λ call outcome. true)) (sym is) c.into_core-core.ensures.by_workers;
       came_to = c.run_crew-book.result.1;
       stands = subst (λ (r : Run). IsEnd r c.run_crew-book.result.1) (sym is) c.run_crew-book.ensures.end;
-      verdict = c.verdict_of-verdict.result;
-      verdict_is = c.verdict_of-verdict.ensures;
       status_is = c.status_of.ensures c.into_core-core.result;
       report = c.in_ok-text.ensures;
     }

@@ -5,7 +5,7 @@ use Rattle.flow_model.specs.Verdict.{call_of}
 use Rattle.flow_core.specs.declared.next.Next.TheVariants as next
 use Rattle.flow_core.specs.Answers.{next_claim}
 use Rattle.flow_core.specs.Run.{schema, now}
-use Rattle.flow_crew.specs.declared.ends.Move.TheVariants.{Perform}
+use Rattle.flow_crew.specs.declared.moves.Move.TheVariants.{Perform}
 use Rattle.flow_crew.proofs.Acting.{done_instead}
 use Rattle.flow_crew.proofs.entries.act.Goals as goal
 

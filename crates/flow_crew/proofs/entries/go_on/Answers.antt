@@ -1,6 +1,6 @@
 use Rattle.std.proofs.Common.{subst, inl, inr}
 use Rattle.flow_core.specs.Next.{IsNext}
-use Rattle.flow_crew.specs.declared.ends.End.TheVariants as end
+use Rattle.flow_core.specs.declared.end.End.TheVariants as end
 use Rattle.flow_crew.proofs.Acting.{is_committed, is_rewound}
 use Rattle.flow_crew.proofs.entries.go_on.Goals as goal
 

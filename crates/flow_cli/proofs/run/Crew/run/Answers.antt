@@ -1,8 +1,8 @@
 use Rattle.std.proofs.Common.{sym, ap, ◌∙◌, subst}
 use Rattle.flow_core.specs.Run.{Run, schema}
 use Rattle.flow_core.specs.Lawful.{IsLawful}
-use Rattle.flow_reply.specs.declared.verdict.Verdict.{Verdict}
-use Rattle.flow_cli.specs.Run.{verdict_of, HasRun}
+use Rattle.flow_reply.specs.declared.verdict.Verdict.TheVariants.{Ended}
+use Rattle.flow_cli.specs.Run.{HasRun}
 use Rattle.flow_cli.proofs.Runs.{run_of}
 use Rattle.flow_cli.proofs.run.Crew.run.Goals as goal
 
@@ -16,5 +16,4 @@ returns g c =
     (c.run_crew-book.ensures.same.0 ∙ ap (λ (r : Run). r.definition) begun) (c.run_crew-book.ensures.same.1 ∙ ap (λ (r : Run). r.limit) begun)
     c.run_crew-book.ensures.end (subst (λ (r : Run). IsLawful (schema r) r.limit r.history) is c.history.ensures.lawful)
     c.into_core-core.ensures.by_workers c.run_crew-book.ensures.callers in
-    subst (λ (v : Verdict). HasRun g.G.Gate.gives c.args.prepared.workflow c.args.self.now.request.steps c.args.self.now.request.workers c.into_core-core.result v) (sym c.verdict_of.ensures)
-    (subst (λ (r : Run). HasRun g.G.Gate.gives c.args.prepared.workflow c.args.self.now.request.steps c.args.self.now.request.workers r (verdict_of c.run_crew-book.result.1)) (sym is) ran)
+    subst (λ (r : Run). HasRun g.G.Gate.gives c.args.prepared.workflow c.args.self.now.request.steps c.args.self.now.request.workers r (Ended c.run_crew-book.result.1)) (sym is) ran

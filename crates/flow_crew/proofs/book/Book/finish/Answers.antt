@@ -3,7 +3,7 @@ use Rattle.flow_core.specs.Run.{Run, schema, now}
 use Rattle.flow_core.specs.Answers.{IsUnanswered}
 use Rattle.flow_model.specs.Verdict.{call_of}
 use Rattle.flow_model.specs.declared.history.Call.{Call}
-use Rattle.flow_crew.specs.declared.ends.End.{End}
+use Rattle.flow_core.specs.declared.end.End.{End}
 use Rattle.flow_crew.specs.Ends.{HasEnd, HasNoEnd, IsEnd}
 use Rattle.flow_crew.specs.Moves.{IsOut}
 use Rattle.flow_crew.proofs.Endings.{IsWithin, legal_within}
