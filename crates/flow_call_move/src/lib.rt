@@ -5,6 +5,7 @@ mod moved;
 mod plan;
 mod retold;
 mod said;
+mod texts;
 mod words;
 
 pub use moved::move_case;

@@ -3,46 +3,24 @@
 use crate::plan::{Renames, new_names, renames_in};
 use crate::retold::retell;
 use crate::said::{There, say_moved, say_same, say_unmoved};
+use crate::texts::{NewTexts, has_texts, new_texts};
 use clap::ArgMatches;
-use flow_call::{DISK, NO_MEMORY, WORDS, read_file, say_unread};
+use flow_call::{DISK, NO_MEMORY, WORDS};
 use flow_call_cases::{
     AskerWords, FileCase, asker_in, opened, say_begin, say_folder, say_policy, say_stop, wait_in,
-    without_divider,
 };
 use flow_case::CaseRun;
-use flow_case_begin::{Begun, CaseStop, CaseTexts, begin};
+use flow_case_begin::{Begun, CaseStop, begin};
 use flow_case_book::Asker;
 use flow_case_files::{
-    GREATEST_TEXT, MOST_MOVES, finish_move, is_cut_off, make_moving, moving_folder, put_in_place,
-    take_away,
+    MOST_MOVES, finish_move, is_cut_off, make_moving, moving_folder, put_in_place, take_away,
 };
 use flow_case_talk::Book;
 use flow_move::{Cause, NewNames, Rename, Unmoved, make_again};
-use std::alloc::{AllocError, Global};
+use std::alloc::AllocError;
 use std::fs::{self, File};
 use std::rt::{Env, Files};
 use std::time::{Clock, Duration};
-
-/// The new texts of a case.
-#[derive(Drop)]
-struct NewTexts {
-    workflow: Vec<u8>,
-    policy: Option<Vec<u8>>,
-    /// How many lines of its file stand before the policy.
-    before: usize,
-}
-
-impl NewTexts {
-    fn lent(&self) -> CaseTexts<'_> {
-        CaseTexts {
-            workflow: &self.workflow,
-            policy: match &self.policy {
-                Some(policy) => Some(policy.as_slice()),
-                None => None,
-            },
-        }
-    }
-}
 
 /// What is asked for.
 #[derive(Clone, Copy)]
@@ -53,102 +31,6 @@ struct Call<'a> {
     json: bool,
     asker: &'a AskerWords,
     renames: &'a [Rename],
-}
-
-fn copied(alloc: Global, text: &[u8]) -> Result<Vec<u8>, u8> {
-    match Vec::from_slice(alloc, text) {
-        Ok(copy) => Ok(copy),
-        Err(AllocError) => Err(NO_MEMORY),
-    }
-}
-
-fn read_text<R: Files<File = File> + AllocGlobal + Eprint>(
-    rt: &R,
-    file: &str,
-) -> Result<Vec<u8>, u8> {
-    match read_file(rt, file, GREATEST_TEXT) {
-        Ok(text) => Ok(text),
-        Err(error) => Err(say_unread(rt, file, error)),
-    }
-}
-
-/// The text of the workflow: that of the words, or else that of the case.
-fn new_workflow<R: Files<File = File> + AllocGlobal + Eprint>(
-    rt: &R,
-    file: Option<&str>,
-    old: &[u8],
-) -> Result<Vec<u8>, u8> {
-    match file {
-        Some(file) => read_text(rt, file),
-        None => copied(rt.alloc(), old),
-    }
-}
-
-/// The text of the policy: that of the words, or else that of the case.
-fn new_policy<R: Files<File = File> + AllocGlobal + Eprint>(
-    rt: &R,
-    file: Option<&str>,
-    old: Option<&[u8]>,
-) -> Result<Option<Vec<u8>>, u8> {
-    match (file, old) {
-        (Some(file), _) => Ok(Some(read_text(rt, file)?)),
-        (None, Some(old)) => Ok(Some(copied(rt.alloc(), old)?)),
-        (None, None) => Ok(None),
-    }
-}
-
-/// The policy without its first line, where that is `%%`, and how many lines were left out.
-fn undivided(alloc: Global, text: Vec<u8>) -> Result<(Vec<u8>, usize), u8> {
-    if without_divider(&text).len() == text.len() {
-        return Ok((text, 0));
-    }
-    let policy = copied(alloc, without_divider(&text));
-    drop(text);
-    Ok((policy?, 1))
-}
-
-/// The new texts: those of the words, and for the rest those of the case.
-fn new_texts<'x, R: Files<File = File> + AllocGlobal + Eprint>(
-    rt: &R,
-    call: &Call<'_>,
-    book: &FileCase<'x, R>,
-) -> Result<NewTexts, u8> {
-    let policy = match new_policy(rt, call.policy, book.policy_text())? {
-        Some(text) => Some(undivided(rt.alloc(), text)?),
-        None => None,
-    };
-    match new_workflow(rt, call.workflow, book.workflow_text()) {
-        Ok(workflow) => Ok(texts_of(workflow, policy)),
-        Err(status) => {
-            drop(policy);
-            Err(status)
-        }
-    }
-}
-
-fn texts_of(workflow: Vec<u8>, policy: Option<(Vec<u8>, usize)>) -> NewTexts {
-    match policy {
-        Some((policy, before)) => NewTexts {
-            workflow,
-            policy: Some(policy),
-            before,
-        },
-        None => NewTexts {
-            workflow,
-            policy: None,
-            before: 0,
-        },
-    }
-}
-
-/// Whether the case has these texts.
-fn has_texts<'x, R: Files<File = File>>(book: &FileCase<'x, R>, texts: &NewTexts) -> bool {
-    let policy = match (texts.lent().policy, book.policy_text()) {
-        (Some(one), Some(other)) => one == other,
-        (None, None) => true,
-        _ => false,
-    };
-    policy && texts.workflow.as_slice() == book.workflow_text()
 }
 
 /// Says why no case can be made of the new texts, and gives the status.
@@ -335,7 +217,7 @@ fn move_open<'x, R: Files<File = File> + Clock + AllocGlobal + Print + Eprint>(
     call: &Call<'_>,
     old: &FileCase<'x, R>,
 ) -> u8 {
-    let texts = match new_texts(rt, call, old) {
+    let texts = match new_texts(rt, call.workflow, call.policy, old) {
         Ok(texts) => texts,
         Err(status) => return status,
     };
