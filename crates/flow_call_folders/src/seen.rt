@@ -13,7 +13,16 @@ fn has_workflow<R: Files<File = File>>(rt: &R, alloc: Global, folder: &str) -> b
     }
 }
 
-/// The cases of a folder by their names, rising; or the folder alone, where it is a case. A case that is being made is left out.
+/// Whether the folder is one in which a case is being made, or moved beside the case as it was.
+fn is_unfinished<R: Files<File = File>>(rt: &R, alloc: Global, folder: &str) -> bool {
+    match folder.strip_suffix(".moving") {
+        Some(case) => has_workflow(rt, alloc, case),
+        None => folder.ends_with(".new"),
+    }
+}
+
+/// The cases of a folder by their names, rising; or the folder alone, where it is a case. A case that is being made is left out, and so is
+/// one that is being moved, while the case as it was is there.
 pub(crate) fn cases_in<R: Files<File = File> + AllocGlobal + Clone + Drop>(
     rt: &R,
     folder: &str,
@@ -28,7 +37,7 @@ pub(crate) fn cases_in<R: Files<File = File> + AllocGlobal + Clone + Drop>(
         let entry = entry?;
         let path = entry.path();
         let name = path.as_str();
-        if !name.ends_with(".new") && has_workflow(rt, alloc, name) {
+        if has_workflow(rt, alloc, name) && !is_unfinished(rt, alloc, name) {
             cases.push(String::from_str(alloc, name)?)?;
         }
     }
