@@ -3,7 +3,7 @@ ghost use Rattle.std.specs.Prelude.{◌≡◌, map, IfOk};
 ghost use Rattle.std.specs.Option.{option_map};
 ghost use Rattle.std.specs.String.{string_bytes};
 ghost use Rattle.flow_list.specs.Words.{name_of};
-ghost use Rattle.flow_folder_page.specs.Lines.{names_of, users_shown, named_users, open_shown, named_task, held_shown, told_task, name_in_step, last_text, IsCaseOf};
+ghost use Rattle.flow_folder_page.specs.Lines.{names_of, users_shown, named_users, open_shown, named_task, told_task, name_in_step, last_text, IsCaseOf};
 
 use crate::data::{FolderCase, OpenTask, TaskHeld};
 use flow_case_seen::SharedTexts;
