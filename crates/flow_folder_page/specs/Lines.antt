@@ -4,7 +4,7 @@ use Rattle.std.proofs.Common.{Vec, Global}
 use Rattle.std.specs.Option.{option_map}
 use Rattle.std.specs.String.{string_bytes}
 use Rattle.flow_list.specs.declared.line.CaseLine.{CaseLine}
-use Rattle.flow_list.specs.declared.out.TaskOut.{TaskOut}
+use Rattle.flow_list.specs.declared.taken.TaskOut.{TaskOut}
 use Rattle.flow_list.specs.declared.steps.LeafName.{LeafName}
 use Rattle.flow_list.specs.declared.tasks.Beginning.{Beginning}
 use Rattle.flow_list.specs.Words.{name_of}

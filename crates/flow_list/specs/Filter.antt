@@ -8,7 +8,7 @@ use Rattle.flow_case_seen.specs.Texts.{Shared}
 use Rattle.flow_case_state.specs.declared.state.CaseState.{CaseState}
 use Rattle.flow_list.specs.declared.line.CaseLine.{CaseLine}
 use Rattle.flow_list.specs.declared.filter.Filter.{Filter}
-use Rattle.flow_list.specs.declared.out.TaskOut.{TaskOut}
+use Rattle.flow_list.specs.declared.taken.TaskOut.{TaskOut}
 use Rattle.flow_list.specs.declared.tasks.Beginning.{Beginning}
 
 -- the policy has a user of that number and name

@@ -6,7 +6,7 @@ use Rattle.flow_model.specs.declared.history.Step.TheVariants.{Took}
 use Rattle.flow_model.specs.Run.{leaf_of_claim}
 use Rattle.flow_core.specs.Run.{Run, now}
 use Rattle.flow_export.specs.declared.log_row.Teller.{Teller}
-use Rattle.flow_list.specs.declared.out.TaskOut.{TaskOut}
+use Rattle.flow_list.specs.declared.taken.TaskOut.{TaskOut}
 
 abbrev pub claim_of : TaskOut → ℕ
 claim_of task = task.claim

@@ -4,7 +4,7 @@ ghost use Rattle.std.specs.String.{string_bytes};
 ghost use Rattle.flow_list.specs.Filter.{IsUserOf, IsNamedIn, IsBegunBy, SomeBegin, SomeOut, IsFor, IsForAny, IsIn, IsOld, HasText, IsShown};
 
 use crate::line::CaseLine;
-use crate::out::TaskOut;
+use crate::taken::TaskOut;
 use crate::tasks::Beginning;
 use flow_case_seen::SharedTexts;
 use flow_case_state::CaseState;

@@ -1,8 +1,8 @@
 //! Lines as objects of JSON.
 
 use crate::line::CaseLine;
-use crate::out::TaskOut;
 use crate::steps::LeafName;
+use crate::taken::TaskOut;
 use crate::tasks::Beginning;
 use crate::words::name_of;
 use flow_case_seen::SharedTexts;

@@ -2,8 +2,8 @@
 ghost use Rattle.std.specs.Prelude.{◌≡◌, None, Some, IfOk, MatchOption};
 ghost use Rattle.flow_list.specs.Line.{last_of, IsLastTold, Stands, IsLineOf};
 
-use crate::out::teller_at;
 use crate::steps::{Steps, steps_of};
+use crate::taken::teller_at;
 use crate::tasks::{Tasks, tasks_of};
 use flow_case::CaseRun;
 use flow_case_state::{CaseState, state_free, state_under};

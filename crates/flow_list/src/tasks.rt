@@ -6,7 +6,7 @@ ghost use Rattle.flow_names.specs.Todo.{number_of, IsOutTask};
 ghost use Rattle.flow_list.specs.Out.{claim_of, IsOutSince};
 ghost use Rattle.flow_list.specs.Tasks.{leaf_of, AreUsersOf, IsOpenTo, AreTasksOf};
 
-use crate::out::{TaskOut, tasks_out};
+use crate::taken::{TaskOut, tasks_out};
 use flow_case::CaseRun;
 use flow_case_state::takers_of;
 use flow_export::Teller;

@@ -3,8 +3,8 @@ ghost use Rattle.std.specs.Prelude.{◌≡◌};
 ghost use Rattle.flow_list.specs.Words.{name_of, user_name};
 
 use crate::line::CaseLine;
-use crate::out::TaskOut;
 use crate::steps::LeafName;
+use crate::taken::TaskOut;
 use crate::tasks::Beginning;
 use flow_case::Users;
 use flow_case_seen::SharedTexts;

@@ -1,6 +1,6 @@
 use Rattle.std.proofs.Common.{◌≡◌, ◌≤◌, length, true≢false, refl, sym, arith}
 use Rattle.std.specs.String.{string_bytes}
-use Rattle.flow_list.specs.declared.out.TaskOut.{TaskOut}
+use Rattle.flow_list.specs.declared.taken.TaskOut.{TaskOut}
 use Rattle.flow_list.proofs.PlaceLemmas.{none_of_more, none_of_all, some_at}
 use Rattle.flow_list.proofs.filter.has_one.Goals as goal
 

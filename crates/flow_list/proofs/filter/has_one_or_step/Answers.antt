@@ -1,5 +1,5 @@
 use Rattle.std.proofs.Common.{◌↔◌, List, IsTrue, subst}
-use Rattle.flow_list.specs.declared.out.TaskOut.{TaskOut}
+use Rattle.flow_list.specs.declared.taken.TaskOut.{TaskOut}
 use Rattle.flow_list.specs.Filter.{SomeOut}
 use Rattle.flow_list.proofs.PlaceLemmas.{first_holds, second_decides}
 use Rattle.flow_list.proofs.filter.has_one_or_step.Goals as goal
