@@ -40,7 +40,7 @@ told_task task = record { task = task.task.items; user = string_bytes task.user;
 abbrev pub name_in_step : LeafName → List ℕ
 name_in_step step = step.name.items
 
-abbrev pub last_text : Option String → List ℕ
+abbrev pub last_text : Option (String Global) → List ℕ
 last_text None = []
 last_text (Some last) = string_bytes last
 
