@@ -215,8 +215,13 @@ fn respond<R: Threads + Wait + Sync, S: Source, G: Gate>(
 ) -> Result<Output, AllocError>
     requires { S.faults source.old < 2 ^ 64 - 1 }
     ensures writes { IfOk result (λ output. Writes G.gives (map (λ word. string_bytes word) words.now) (S.left source.old) output.status output.text.items) }
-    ensures ends { IfOk result (λ output. EndsWith (map (λ word. string_bytes word) words.now) (source.new ≡ source.old)
-        (S.left source.old) (S.left source.new) (S.faults source.old) (S.faults source.new) output.status) }
+    ensures whole { IfOk result (λ output. IsWhole output.status) }
+    ensures words { IfOk result (λ output. output.status ≡ Status.Words → source.new ≡ source.old) }
+    ensures fault { IfOk result (λ output. (output.status ≡ Status.ReadFault) ↔ (S.faults source.old < S.faults source.new)) }
+    ensures end { IfOk result (λ output. (purpose : Purpose) → IsFor (map (λ word. string_bytes word) words.now) purpose → ReadsFor purpose →
+        IsOver output.status → IfSome (S.left source.old) (λ _. S.left source.new ≡ Some [])) }
+    ensures refused { IfOk result (λ output. (purpose : Purpose) → IsFor (map (λ word. string_bytes word) words.now) purpose → ReadsFor purpose →
+        output.status ≡ Status.Input → IsTakenFrom (S.left source.old) (S.left source.new)) }
     ensures unread { (purpose : Purpose) → IsFor (map (λ word. string_bytes word) words.now) purpose → ¬ (ReadsFor purpose) → source.new ≡ source.old }
 {
     law_one_purpose();
