@@ -4,6 +4,7 @@ use flow_call::{NO_MEMORY, read_file, say_unread};
 use flow_call_cases::{FileCase, without_divider};
 use flow_case_begin::CaseTexts;
 use flow_case_files::GREATEST_TEXT;
+use flow_case_talk::Book;
 use std::alloc::{AllocError, Global};
 use std::fs::File;
 use std::rt::Files;
