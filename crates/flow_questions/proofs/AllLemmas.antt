@@ -68,11 +68,11 @@ is_next c f question leaves takers event k claim d found within done number = re
 
 events_few : (labels : List Label) (list : List ℕ) → length (events_of labels list) ≤ length list
 events_few labels [] = omega arith
-events_few labels (n ∷ list) = one (event_at labels n) refl
+events_few labels (n ∷ list) = one (events_few labels list) (event_at labels n) refl
   where
-    one : (o : Option ℕ) → event_at labels n ≡ o → length (events_of labels (n ∷ list)) ≤ suc (length list)
-    one None is = rw is (omega (arith, events_few labels list))
-    one (Some e) is = rw is (omega (arith, events_few labels list))
+    one : length (events_of labels list) ≤ length list → (o : Option ℕ) → event_at labels n ≡ o → length (events_of labels (n ∷ list)) ≤ suc (length list)
+    one few None is = rw is (omega (arith, few))
+    one few (Some e) is = rw is (omega (arith, few))
 
 -- the number of a claim is small
 pub small_claim : (c : Ruled) → IsWellFormed (schema c.desk.run) → (question : Question) (leaves : List ℕ) (takers : List (ℕ × ℕ)) (event k claim : ℕ) → IsFoundBy c question leaves takers event → k < length leaves →
@@ -135,8 +135,7 @@ module _ (c : Ruled) (f : IsWellFormed (schema c.desk.run)) (legal : IsLegal (sc
       let same : to one ≡ to two = (fits.beside one two (inl (inl refl)) (inl (inr refl))).one (inl (refl, refl)) in (
         to one,
         roles (to one) one (fits.role one (inl (inl refl))),
-        has_it (Both one two) found one so.0,
-        subst (HasEvent c.desk two) (sym same) (has_it (Both one two) found two so.1),
+        (has_it (Both one two) found one so.0, subst (HasEvent c.desk two) (sym same) (has_it (Both one two) found two so.1)),
       )
 
   -- a leaf of the event can be taken, though nobody may
@@ -162,8 +161,8 @@ module _ (c : Ruled) (f : IsWellFormed (schema c.desk.run)) (legal : IsLegal (sc
           apart = λ differ i tie is.
               left.apart i (g, n, tie, ng, subst (λ u. IsTakenBy (now c.desk.run) (takings_of c.desk.run.history) n u) (sym is) (taken_by Unmanned found g n m ng));
           together = λ differ i tie. elim (cases_Bool (user == to g)) [
-            | inl yes ↦ eqb-true user (to g) yes
-            | inr no ↦ absurd (left.together i (g, n, to g, tie, ng, taken_by Unmanned found g n m ng, λ is. true≢false (sym (eq-eqb user (to g) (sym is)) ∙ no)))
+            | inl equal ↦ eqb-true user (to g) equal
+            | inr other ↦ absurd (left.together i (g, n, to g, tie, ng, taken_by Unmanned found g n m ng, λ is. true≢false (sym (eq-eqb user (to g) (sym is)) ∙ other)))
           ];
           one = absurd;
         }),

@@ -5,3 +5,4 @@ pub mod TraceLemmas
 pub mod DoneLemmas
 pub mod MakeLemmas
 pub mod AllLemmas
+pub mod TakerLemmas

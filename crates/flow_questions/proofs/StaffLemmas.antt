@@ -104,13 +104,13 @@ abbrev pub NoneOpenBelow : Run → ℕ → ℕ → Type 0
 NoneOpenBelow r event past = (leaf : ℕ) → leaf < past → ¬ (IsOpenTo r leaf event)
 
 pub one_more_closed : (r : Run) (event past : ℕ) → NoneOpenBelow r event past → ¬ (IsOpenTo r past event) → NoneOpenBelow r event (past + 1)
-one_more_closed r event past none not leaf below open = ⊎_elim
-    (λ less. none leaf less open)
-    (λ at. let same : leaf ≡ past = omega (arith, below, at) in not (subst (λ n. IsOpenTo r n event) same open))
+one_more_closed r event past none not leaf below can = ⊎_elim
+    (λ less. none leaf less can)
+    (λ at. let same : leaf ≡ past = omega (arith, below, at) in not (subst (λ n. IsOpenTo r n event) same can))
     (cases_lt leaf past)
 
 pub none_open : (r : Run) (event past : ℕ) → NoneOpenBelow r event past → length (schema r).labels ≤ past → (leaf : ℕ) → ¬ (IsOpenTo r leaf event)
-none_open r event past none all leaf open = none leaf (omega (arith, all, event_within (schema r).labels leaf event open.1)) open
+none_open r event past none all leaf can = none leaf (omega (arith, all, event_within (schema r).labels leaf event can.1)) can
 
 -- ---- users who have both
 

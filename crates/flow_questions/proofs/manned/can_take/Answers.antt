@@ -8,5 +8,5 @@ returns-in-Ok c = open_just c.args.run.now.desk c.core.result.now c.args.leaf c.
 pub returns-in-Err : goal.returns-in-Err
 returns-in-Err c = (
   λ no. absurd (true≢false (sym no)),
-  λ open. absurd (never_open c.args.run.now.desk c.core.result.now c.args.leaf c.args.event _ c.core.ensures.run c.in-Err.ensures open),
+  λ can. absurd (never_open c.args.run.now.desk c.core.result.now c.args.leaf c.args.event _ c.core.ensures.run c.in-Err.ensures can),
 )
