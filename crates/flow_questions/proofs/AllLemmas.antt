@@ -156,16 +156,20 @@ module _ (c : Ruled) (f : IsWellFormed (schema c.desk.run)) (legal : IsLegal (sc
           ),
           of,
         ),
-        λ user left. nobody (user, left.role, λ g (n, m, ng). record {
-          same = λ e. absurd (not_again w f trace leaves n leaf event good begins m (ng ∙ ap Some (sym e)) of);
-          apart = λ differ i tie is.
-              left.apart i (g, n, tie, ng, subst (λ u. IsTakenBy (now c.desk.run) (takings_of c.desk.run.history) n u) (sym is) (taken_by Unmanned found g n m ng));
-          together = λ differ i tie. elim (cases_Bool (user == to g)) [
-            | inl equal ↦ eqb-true user (to g) equal
-            | inr other ↦ absurd (left.together i (g, n, to g, tie, ng, taken_by Unmanned found g n m ng, λ is. true≢false (sym (eq-eqb user (to g) (sym is)) ∙ other)))
-          ];
-          one = absurd;
-        }),
+        λ user left. nobody (
+          user,
+          left.role,
+          λ g (n, m, ng). record {
+            same = λ e. absurd (not_again w f trace leaves n leaf event good begins m (ng ∙ ap Some (sym e)) of);
+            apart = λ differ i tie is.
+                left.apart i (g, n, tie, ng, subst (λ u. IsTakenBy (now c.desk.run) (takings_of c.desk.run.history) n u) (sym is) (taken_by Unmanned found g n m ng));
+            together = λ differ i tie. elim (cases_Bool (user == to g)) [
+              | inl equal ↦ eqb-true user (to g) equal
+              | inr other ↦ absurd (left.together i (g, n, to g, tie, ng, taken_by Unmanned found g n m ng, λ is. true≢false (sym (eq-eqb user (to g) (sym is)) ∙ other)))
+            ];
+            one = absurd;
+          },
+        ),
       )
 
 -- ---- one round of the loop
