@@ -1,5 +1,5 @@
 -- What a search of all plans tells of a case.
-use Rattle.std.proofs.Common.{◌≡◌, ℕ, sym, subst}
+use Rattle.std.proofs.Common.{◌≡◌, ℕ, List, sym, subst}
 use Rattle.flow_laws.specs.WellFormed.{IsWellFormed}
 use Rattle.flow_workflow.specs.Definition.{Definition, schema_of}
 use Rattle.flow_plan.specs.Compilation.{Compilation, IsCompiled}
@@ -11,7 +11,7 @@ use Rattle.flow_stages.specs.declared.search.Searched.{Searched}
 use Rattle.flow_stages.specs.declared.search.Searched.TheVariants.{Nothing, Shown, Spent}
 use Rattle.flow_stages.specs.Asked.{IsShown}
 use Rattle.flow_stages.specs.Found.{TellsOf}
-use Rattle.flow_questions.specs.Questions.{IsRunOfSame, IsFoundIn, LooksIn}
+use Rattle.flow_questions.specs.Questions.{IsRunOfSame, IsFoundBy, IsFoundIn, LooksIn}
 use Rattle.flow_questions.proofs.NeverLemmas.{never_told}
 
 pub looked : (c : Ruled) (compiled : Compilation) (question : Question) (left : ℕ) (found : Searched) → IsCompiled (schema c.desk.run) compiled → IsWellFormed (schema c.desk.run) →
@@ -22,24 +22,23 @@ looked c compiled question left (Shown leaves takers event) so well_formed (kept
   compiled = so;
   kept = kept;
   of = of;
-  leaves = leaves.items;
-  takers = takers.items;
-  event = event;
   shown = shown;
 }
 looked c compiled question left Spent so well_formed spent = spent
 
 -- what is found of a case is found of a later run of the same case
-pub found_still : (old new : Ruled) (question : Question) → IsRunOfSame old new → IsFoundIn old question → IsFoundIn new question
-found_still old new question (definition, assigned) f = record {
+pub found_by_still : (old new : Ruled) (question : Question) (leaves : List ℕ) (takers : List (ℕ × ℕ)) (event : ℕ) → IsRunOfSame old new →
+    IsFoundBy old question leaves takers event → IsFoundBy new question leaves takers event
+found_by_still old new question leaves takers event (definition, assigned) f = record {
   compilation = f.compilation;
   compiled = subst (λ (d : Definition). IsCompiled (schema_of d) f.compilation) (sym definition) f.compiled;
   kept = f.kept;
   of = f.of;
-  leaves = f.leaves;
-  takers = f.takers;
-  event = f.event;
   shown =
-      subst (λ (d : Definition). IsShown (schema_of d) new.desk.assigned.duties f.kept.plan question f.leaves f.takers f.event) (sym definition)
-      (subst (λ (a : Assigned). IsShown (schema_of old.desk.run.definition) a.duties f.kept.plan question f.leaves f.takers f.event) (sym assigned) f.shown);
+      subst (λ (d : Definition). IsShown (schema_of d) new.desk.assigned.duties f.kept.plan question leaves takers event) (sym definition)
+      (subst (λ (a : Assigned). IsShown (schema_of old.desk.run.definition) a.duties f.kept.plan question leaves takers event) (sym assigned) f.shown);
 }
+
+pub found_still : (old new : Ruled) (question : Question) (leaves : List ℕ) (takers : List (ℕ × ℕ)) (event : ℕ) → IsRunOfSame old new →
+    IsFoundBy old question leaves takers event → IsFoundIn new question
+found_still old new question leaves takers event same f = (leaves, takers, event, found_by_still old new question leaves takers event same f)

@@ -1,5 +1,5 @@
 -- What is asked of a workflow and its policy, and what is told.
-use Rattle.std.specs.Prelude.{◌≡◌, ℕ, List, Some}
+use Rattle.std.specs.Prelude.{◌≡◌, ◌≤◌, ◌*◌, ℕ, List, [], length, Some}
 use Rattle.flow_model.specs.Facts.{event_at}
 use Rattle.flow_model.specs.Lists.{◌∈◌}
 use Rattle.flow_model.specs.Run.{CanTake, IsLegal}
@@ -57,25 +57,30 @@ abbrev pub IsNeverIn : Ruled → Question → Type 0
 IsNeverIn c (Both one two) = NobodyHasBoth c one two
 IsNeverIn c Unmanned = AlwaysStaffed c
 
--- the leaves of an option can be done in turn, users may have their events, and what is asked is so after them
-pub record IsFoundIn (c : Ruled) (question : Question) : Type 0 where
+-- these leaves of an option can be done in turn, these users may have their events, and what is asked is so after them
+pub record IsFoundBy (c : Ruled) (question : Question) (leaves : List ℕ) (takers : List (ℕ × ℕ)) (event : ℕ) : Type 0 where
   pub compilation : Compilation
   pub compiled : IsCompiled (schema c.desk.run) compilation
   pub kept : Sampled
   pub of : kept ∈ compilation.plans
-  pub leaves : List ℕ
-  pub takers : List (ℕ × ℕ)
-  pub event : ℕ
   pub shown : IsShown (schema c.desk.run) c.desk.assigned.duties kept.plan question leaves takers event
+
+-- some leaves can, and some users may
+abbrev pub IsFoundIn : Ruled → Question → Type 0
+IsFoundIn c question = (leaves : List ℕ) × (takers : List (ℕ × ℕ)) × (event : ℕ) × IsFoundBy c question leaves takers event
+
+-- the run has no entry yet, and room for two of each leaf
+abbrev pub IsFresh : Ruled → Type 0
+IsFresh c = (c.desk.run.history ≡ []) × (2 * length (schema c.desk.run).labels ≤ c.desk.run.limit)
 
 -- what a search through the options tells of the case, with so many states left
 abbrev pub LooksIn : Ruled → Question → ℕ → Searched → Type 0
 LooksIn c question left searched.Nothing = IsNeverIn c question
-LooksIn c question left (searched.Shown leaves takers event) = IsFoundIn c question
+LooksIn c question left (searched.Shown leaves takers event) = IsFoundBy c question leaves.items takers.items event
 LooksIn c question left searched.Spent = left ≡ 0
 
 -- where a user is told, the run shows it; never is told where no run does; it is undecided only where all states were looked at; and unmade
--- where an option shows it, and the run does not
+-- where an option shows it, and the run does not: never of a run that is fresh
 abbrev pub TellsOfBoth : Ruled → ℕ → ℕ → ℕ → Shared → Type 0
 TellsOfBoth c one two states (shared.By user) = HasBoth c.desk one two user
 TellsOfBoth c one two states shared.Never = NobodyHasBoth c one two
@@ -83,7 +88,7 @@ TellsOfBoth c one two states (shared.Undecided looked) = looked ≡ states
 TellsOfBoth c one two states shared.Unmade = IsFoundIn c (Both one two)
 
 -- where a leaf is told, the run ends there; always is told where no run ends so; it is undecided only where all states were looked at; and
--- unmade where an option shows it, and the run does not
+-- unmade where an option shows it, and the run does not: never of a run that is fresh
 abbrev pub TellsOfStaff : Ruled → ℕ → Manning → Type 0
 TellsOfStaff c states (manning.Unmanned leaf) = IsUnmanned c.desk leaf
 TellsOfStaff c states manning.Always = AlwaysStaffed c

@@ -1,13 +1,14 @@
-ghost use Rattle.std.specs.Prelude.{◌≡◌, ℕ, Some, IsTrue, IfOk, IfSome};
+ghost use Rattle.std.specs.Prelude.{◌≡◌, ◌≢◌, ◌↔◌, ℕ, Some, None, IsTrue, IfOk, IfSome};
 ghost use Rattle.flow_model.specs.Facts.{event_at};
 ghost use Rattle.flow_core.specs.Run.{schema};
 ghost use Rattle.flow_core.specs.Holding.{IsTakeable};
 ghost use Rattle.flow_roles.specs.Answers.{IsLeftTo};
 ghost use Rattle.flow_plan.specs.Compilation.{IsCompiled};
-ghost use Rattle.flow_questions.specs.Questions.{HoldsRoles, IsRunOfSame, IsUnmanned, TellsOfStaff};
+ghost use Rattle.flow_questions.specs.declared.manned.Manning.TheVariants as manning;
+ghost use Rattle.flow_questions.specs.Questions.{HoldsRoles, IsFresh, IsRunOfSame, IsUnmanned, TellsOfStaff};
 
 use crate::never::look_for;
-use crate::run::do_all;
+use crate::run::{do_all, recall};
 use flow_case::RuledRun;
 use flow_plan::Compiled;
 use flow_staff::may_take;
@@ -23,7 +24,8 @@ pub enum Manning {
     Always,
     /// No such run was found among so many states, which are all that were allowed. There may be one.
     Undecided(u64),
-    /// An option has such a run. Not all of its entries were made, or it did not show what is asked.
+    /// An option has such a run. Not all of its entries were made, or it did not show what is asked: never of a run that has no entry yet and
+    /// has room for two of each leaf.
     Unmade,
 }
 
@@ -31,7 +33,7 @@ pub enum Manning {
 #[tactic(auto, using(crate::proofs::StaffLemmas::none_left))]
 fn is_for_nobody(run: &RuledRun, event: u32, users: u32) -> bool
     requires { HoldsRoles run.now.desk.assigned.duties users }
-    ensures { IsTrue result → (user : ℕ) → ¬ (IsLeftTo run.now.desk user event) }
+    ensures { IsTrue result ↔ ((user : ℕ) → ¬ (IsLeftTo run.now.desk user event)) }
 {
     for user in 0..users {
         if may_take(run.core(), run.policy(), event, user) {
@@ -43,7 +45,7 @@ fn is_for_nobody(run: &RuledRun, event: u32, users: u32) -> bool
 
 /// Whether the leaf is the event's and may be taken, whoever may.
 fn can_take(run: &RuledRun, leaf: u32, event: u32) -> bool
-    ensures { IsTrue result → IsTakeable run.now.desk.run leaf × (event_at (schema run.now.desk.run).labels leaf ≡ Some event) }
+    ensures { IsTrue result ↔ (IsTakeable run.now.desk.run leaf × (event_at (schema run.now.desk.run).labels leaf ≡ Some event)) }
 {
     match run.core().may_take(leaf) {
         Ok(found) => found == event,
@@ -55,7 +57,9 @@ fn can_take(run: &RuledRun, leaf: u32, event: u32) -> bool
 #[tactic(auto, using(crate::proofs::StaffLemmas::unmanned_here))]
 fn unmanned(run: &RuledRun, event: u32, users: u32) -> Option<u32>
     requires { HoldsRoles run.now.desk.assigned.duties users }
-    ensures { IfSome result (IsUnmanned run.now.desk) }
+    ensures some { IfSome result (IsUnmanned run.now.desk) }
+    ensures none { result ≡ None → ((user : ℕ) → ¬ (IsLeftTo run.now.desk user event)) →
+        (leaf : ℕ) → ¬ (IsTakeable run.now.desk.run leaf × (event_at (schema run.now.desk.run).labels leaf ≡ Some event)) }
 {
     if !is_for_nobody(run, event, users) {
         return None;
@@ -82,6 +86,7 @@ pub fn staffed(
     requires compiled { IsCompiled (schema run.old.desk.run) compiled.now }
     ensures same { IsRunOfSame run.old run.new }
     ensures told { IfOk result (TellsOfStaff run.new states) }
+    ensures made { IsFresh run.old → IfOk result (λ told. told ≢ manning.Unmade) }
 {
     let mut left = states;
     match look_for(alloc, run, compiled, users, Question::Unmanned, &mut left)? {
@@ -93,10 +98,11 @@ pub fn staffed(
             event,
         } => {
             do_all(run, &leaves, &takers);
-            Ok(match unmanned(run, event, users) {
-                Some(leaf) => Manning::Unmanned(leaf),
-                None => Manning::Unmade,
-            })
+            recall(run);
+            match unmanned(run, event, users) {
+                Some(leaf) => Ok(Manning::Unmanned(leaf)),
+                None => Ok(Manning::Unmade),
+            }
         }
     }
 }
