@@ -172,10 +172,9 @@ fn move_named<'x, R: Files<File = File> + Clock + AllocGlobal + Print + Eprint>(
     old: &FileCase<'x, R>,
     texts: &NewTexts,
     names: &NewNames,
-    run: CaseRun,
+    run: &mut CaseRun,
 ) -> u8 {
-    let mut run = run;
-    let made = make_again(rt.alloc(), names, old.core().history(), &mut run);
+    let made = make_again(rt.alloc(), names, old.core().history(), run);
     let there = There {
         alloc: rt.alloc(),
         core: run.core(),
@@ -196,18 +195,16 @@ fn move_begun<'x, R: Files<File = File> + Clock + AllocGlobal + Print + Eprint>(
     call: &Call<'_>,
     old: &FileCase<'x, R>,
     texts: &NewTexts,
-    begun: Begun,
+    begun: &mut Begun,
 ) -> u8 {
-    let Begun { script, run, users } = begun;
-    drop(script);
-    let names = new_names(rt.alloc(), old, users.as_ref(), call.renames);
-    drop(users);
+    let names = new_names(rt.alloc(), old, begun.users.as_ref(), call.renames);
     match names {
-        Ok(names) => move_named(rt, call, old, texts, &names, run),
-        Err(AllocError) => {
-            drop(run);
-            NO_MEMORY
+        Ok(names) => {
+            let status = move_named(rt, call, old, texts, &names, &mut begun.run);
+            drop(names);
+            status
         }
+        Err(AllocError) => NO_MEMORY,
     }
 }
 
@@ -225,7 +222,12 @@ fn move_open<'x, R: Files<File = File> + Clock + AllocGlobal + Print + Eprint>(
         return say_same(rt, call.json);
     }
     match begin(rt.alloc(), texts.lent()) {
-        Ok(begun) => move_begun(rt, call, old, &texts, begun),
+        Ok(begun) => {
+            let mut begun = begun;
+            let status = move_begun(rt, call, old, &texts, &mut begun);
+            drop(begun);
+            status
+        }
         Err(stop) => say_no_case(rt, call, &texts, stop),
     }
 }
