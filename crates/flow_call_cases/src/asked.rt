@@ -4,12 +4,11 @@ ghost use Rattle.std.specs.Prelude.{◌≡◌};
 use crate::faults::{say_folder, say_stop};
 use crate::words::line_in;
 use clap::ArgMatches;
-use flow_call::{DISK, NO_MEMORY, REFUSED, write_out};
+use flow_call::{DISK, NO_MEMORY, REFUSED, stamp, write_out};
 use flow_case_book::{Asker, CaseBook, KeptTexts, open_case};
 use flow_case_files::{CaseDisks, FolderFault, is_cut_off, open_disks, read_case};
 use flow_case_talk::{Form, Outcome, Reply, begin_line, idle_lines};
 use flow_disk::{Disk, FileDisk};
-use jiff::Timestamp;
 use std::alloc::AllocError;
 use std::env;
 use std::fs::File;
@@ -28,14 +27,6 @@ pub struct AskerWords {
     pub name: String,
     pub at: String,
     pub note: String,
-}
-
-/// The present time as RFC 3339, to the second.
-pub fn stamp<R: Clock + AllocGlobal>(rt: &R) -> Result<String, AllocError> {
-    match Timestamp::now(rt) {
-        Ok(now) => format!(in rt.alloc(); "{now:.0}"),
-        Err(_) => format!(in rt.alloc(); "no time"),
-    }
 }
 
 /// The text that is given, or else the other.

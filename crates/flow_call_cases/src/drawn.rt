@@ -1,9 +1,9 @@
 //! A case is drawn.
 
-use crate::asked::{FileCase, WAIT, opened, stamp};
+use crate::asked::{FileCase, WAIT, opened};
 use crate::faults::say_folder;
 use clap::ArgMatches;
-use flow_call::{NO_MEMORY, say_undrawn, sheet_in, write_out};
+use flow_call::{NO_MEMORY, say_undrawn, sheet_in, stamp, write_out};
 use flow_case_book::Asker;
 use flow_case_files::read_case;
 use flow_case_page::leaf_notes;

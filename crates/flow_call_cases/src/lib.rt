@@ -10,7 +10,7 @@ mod spoken;
 mod whole;
 mod words;
 
-pub use asked::{AskerWords, FileCase, ask_case, asker_in, opened, say_begin, stamp, wait_in};
+pub use asked::{AskerWords, FileCase, ask_case, asker_in, opened, say_begin, wait_in};
 pub use drawn::{case_report, draw_case};
 pub use faults::{say_folder, say_policy, say_stop};
 pub use made::{make, without_divider};

@@ -1,9 +1,9 @@
 //! The page of a case.
 
-use crate::asked::{FileCase, opened, stamp, wait_in};
+use crate::asked::{FileCase, opened, wait_in};
 use crate::faults::say_folder;
 use clap::{ArgMatches, Command};
-use flow_call::{NO_MEMORY, option, required, say_undrawn, write_out};
+use flow_call::{NO_MEMORY, option, required, say_undrawn, stamp, write_out};
 use flow_case_book::Asker;
 use flow_case_files::read_case;
 use flow_case_page::{CaseShown, case_page, leaf_notes};
@@ -33,12 +33,6 @@ pub fn page_command<'a>(alloc: Global) -> Result<Command<'a>, AllocError> {
             "wait",
             "SECONDS",
             "how long to wait for another command on the case; 5 without it",
-        ))?
-        .arg(option(
-            alloc,
-            "jobs",
-            "N",
-            "how many threads look at the cases of a folder, 1 to 64; else 4",
         ))
 }
 

@@ -1,8 +1,8 @@
 //! A dialogue with a case: each line is answered before the next is read. At a terminal the case stands before each line.
 
-use crate::asked::{FileCase, ask_line, asker_in, opened, stamp, wait_in};
+use crate::asked::{FileCase, ask_line, asker_in, opened, wait_in};
 use clap::ArgMatches;
-use flow_call::{NO_MEMORY, READ_FAULT, REFUSED, write_out};
+use flow_call::{NO_MEMORY, READ_FAULT, REFUSED, stamp, write_out};
 use std::alloc::AllocError;
 use std::fs::File;
 use std::io::BufRead;

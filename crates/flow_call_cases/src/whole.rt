@@ -1,8 +1,8 @@
 //! A case is checked.
 
-use crate::asked::{FileCase, opened, stamp, wait_in};
+use crate::asked::{FileCase, opened, wait_in};
 use clap::ArgMatches;
-use flow_call::{NO_MEMORY, REFUSED, say_unread, write_out};
+use flow_call::{NO_MEMORY, REFUSED, say_unread, stamp, write_out};
 use flow_case_book::VerifyRefusal;
 use flow_case_files::{ENTRIES, TRAIL, bytes_behind};
 use flow_case_talk::Book;
