@@ -70,7 +70,8 @@ fn run_in<R: Files<File = File> + AllocGlobal + Eprint>(
     text: &[u8],
 ) -> Result<Vec<u8>, u8> {
     match read_file(rt, path, GREATEST_RUN) {
-        Ok(bytes) if is_kept(&bytes) => kept_report(rt, path, text),
+        // a longer one is told as such, as other files are
+        Ok(bytes) if is_kept(&bytes) && bytes.len() <= GREATEST_RUN => kept_report(rt, path, text),
         Ok(bytes) => Ok(bytes),
         Err(error) => Err(say_unread(rt, path, error)),
     }
