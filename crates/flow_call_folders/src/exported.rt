@@ -1,17 +1,24 @@
 //! The histories of cases are written as an event log.
 
-use crate::seen::{SeenCase, cases_in, say_unseen, seen};
+use crate::cases::cases_in;
+use crate::office::{Asked, write_cases};
+use crate::read::CaseFiles;
+use crate::unseen::{Unseen, why_stopped};
 use clap::builder::ValueParser;
 use clap::{ArgMatches, Command};
-use flow_call::{NO_MEMORY, option, required, say_unread, write_out};
-use flow_case_talk::Book;
+use flow_call::{
+    MOST_JOBS, NO_MEMORY, REFUSED, USUAL_JOBS, WORDS, number_in, option, required, say_unread,
+    write_out,
+};
+use flow_case_seen::{SharedTexts, seen_case};
 use flow_export::{
-    LogRow, SQL_END, SQL_HEAD, Teller, XES_END, XES_HEAD, csv_head, csv_lines, json_lines, rows_of,
+    LogRow, SQL_END, SQL_HEAD, XES_END, XES_HEAD, csv_head, csv_lines, json_lines, rows_of,
     sql_case, xes_trace,
 };
 use std::alloc::{AllocError, Global};
 use std::fs::File;
 use std::rt::Files;
+use std::thread::Threads;
 
 /// How the log is written.
 #[derive(Clone, Copy)]
@@ -63,7 +70,7 @@ impl Form {
 }
 
 /// Which events are written.
-#[derive(Clone, Copy, PartialEq, Eq)]
+#[derive(Clone, Copy)]
 enum Wanted {
     /// All of them.
     All,
@@ -110,120 +117,87 @@ pub fn export_command<'a>(alloc: Global) -> Result<Command<'a>, AllocError> {
     )
     .value_parser(ValueParser::Names(&["all", "journal", "tasks"]))
     .default_value("all");
+    let jobs = option(
+        alloc,
+        "jobs",
+        "N",
+        "how many threads look at cases, 1 to 64; else 4",
+    );
     Command::new(alloc, "export")
         .about("Writes the histories of cases as an event log")
         .arg(folder)?
         .arg(form)?
-        .arg(rows)
+        .arg(rows)?
+        .arg(jobs)
 }
 
-/// Who made each entry of the case.
-fn tellers_of(alloc: Global, book: &SeenCase) -> Result<Vec<Teller>, AllocError> {
-    let mut tellers = Vec::new(alloc);
-    for place in 0..book.core().history().len() {
-        let teller = match book.told(place) {
-            Some(told) => Teller {
-                at: String::from_str(alloc, told.at)?,
-                by: String::from_str(alloc, told.by)?,
-                note: String::from_str(alloc, told.note)?,
-            },
-            None => Teller {
-                at: String::new(alloc),
-                by: String::new(alloc),
-                note: String::new(alloc),
-            },
+/// What is written of each case.
+#[derive(Clone, Copy)]
+pub(crate) struct Log {
+    form: Form,
+    wanted: Wanted,
+}
+
+impl Log {
+    /// What is written of a case with those texts and files.
+    pub(crate) fn text(
+        self,
+        alloc: Global,
+        path: &str,
+        texts: &SharedTexts,
+        files: &CaseFiles,
+    ) -> Result<Vec<u8>, Unseen> {
+        let entries = files.entries.clone()?;
+        let seen = match seen_case(alloc, texts, entries, &files.trail) {
+            Ok(seen) => seen,
+            Err(stop) => return Err(why_stopped(alloc, &stop)),
         };
-        tellers.push(teller)?;
+        let rows = rows_of(alloc, seen.run.core(), path, &seen.tellers);
+        drop(seen);
+        let mut rows = rows?;
+        rows.retain(|row| self.wanted.has(row));
+        Ok(self.form.text(alloc, path, &rows)?)
     }
-    Ok(tellers)
 }
 
-/// What is written of a case.
-fn case_text(
-    alloc: Global,
-    book: &SeenCase,
-    case: &str,
-    form: Form,
-    wanted: Wanted,
-) -> Result<Vec<u8>, AllocError> {
-    let tellers = tellers_of(alloc, book)?;
-    let mut rows = rows_of(alloc, book.core(), case, &tellers)?;
-    rows.retain(|row| wanted.has(row));
-    form.text(alloc, case, &rows)
-}
-
-/// Writes a case, and gives the status. A case that is damaged is told.
-fn export_case<R: Files<File = File> + AllocGlobal + Print + Eprint>(
+/// Writes the log of the cases, and gives the status.
+fn write_log<R: Files<File = File> + AllocGlobal + Print + Eprint + Threads + Sync>(
     rt: &R,
-    case: &str,
-    form: Form,
-    wanted: Wanted,
+    cases: &[String],
+    log: Log,
+    jobs: u32,
 ) -> u8 {
-    let book = match seen(rt, case) {
-        Ok(book) => book,
-        Err(why) => return say_unseen(rt, case, why),
+    let Ok(head) = log.form.head(rt.alloc()) else {
+        return NO_MEMORY;
     };
-    let text = case_text(rt.alloc(), &book, case, form, wanted);
-    drop(book);
-    match text {
-        Ok(text) => write_out(rt, &text),
-        Err(AllocError) => NO_MEMORY,
-    }
-}
-
-/// Writes the cases, one after another, and gives the status: the first that is not 0.
-fn export_cases<R: Files<File = File> + AllocGlobal + Print + Eprint>(
-    rt: &R,
-    cases: &[String],
-    form: Form,
-    wanted: Wanted,
-) -> u8 {
-    let mut status = 0;
-    for case in cases {
-        let one = export_case(rt, case.as_str(), form, wanted);
-        if status == 0 {
-            status = one;
-        }
-    }
-    status
-}
-
-/// Writes what stands in front of the cases, and gives the status.
-fn write_head(rt: &(impl AllocGlobal + Print + Eprint), form: Form) -> u8 {
-    match form.head(rt.alloc()) {
-        Ok(head) => write_out(rt, &head),
-        Err(AllocError) => NO_MEMORY,
-    }
-}
-
-/// Writes the log of the cases, and gives the status: the first that is not 0.
-fn write_log<R: Files<File = File> + AllocGlobal + Print + Eprint>(
-    rt: &R,
-    cases: &[String],
-    form: Form,
-    wanted: Wanted,
-) -> u8 {
-    match write_head(rt, form) {
+    match write_out(rt, &head) {
         0 => {}
-        status => return status,
+        fault => return fault,
     }
-    let status = export_cases(rt, cases, form, wanted);
-    match write_out(rt, form.end()) {
-        0 => status,
+    match write_cases(rt, cases, Asked::Log(log), jobs) {
+        status @ (0 | REFUSED) => match write_out(rt, log.form.end()) {
+            0 => status,
+            fault => fault,
+        },
         fault => fault,
     }
 }
 
 /// Writes the event log of the cases that the words name, and gives the status.
-pub fn export<R: Files<File = File> + AllocGlobal + Clone + Drop + Print + Eprint>(
+pub fn export<R: Files<File = File> + AllocGlobal + Clone + Drop + Print + Eprint + Threads + Sync>(
     rt: &R,
     words: &ArgMatches<'_>,
 ) -> u8 {
     let folder = words.get_str("folder").unwrap_or("");
-    let form = Form::called(words.get_str("form").unwrap_or(""));
-    let wanted = Wanted::called(words.get_str("rows").unwrap_or(""));
+    let Some(jobs) = number_in(words.get_str("jobs"), USUAL_JOBS, MOST_JOBS) else {
+        return WORDS;
+    };
+    let log = Log {
+        form: Form::called(words.get_str("form").unwrap_or("")),
+        wanted: Wanted::called(words.get_str("rows").unwrap_or("")),
+    };
     match cases_in(rt, folder) {
-        Ok(cases) => write_log(rt, &cases, form, wanted),
+        Ok(cases) => write_log(rt, &cases, log, jobs),
         Err(error) => say_unread(rt, folder, error),
     }
 }

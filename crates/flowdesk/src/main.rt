@@ -9,8 +9,9 @@ use flow_call::{NO_MEMORY, WORDS, is_folder};
 use flow_call_cases::{
     ask_case, case_report, dialogue, draw_case, is_case_command, make, verify, write_page,
 };
-use flow_call_folders::export;
+use flow_call_folders::{export, is_office, list, write_office};
 use flow_call_logs::{draw_log, log_file};
+use flow_call_move::move_case;
 use flow_call_policies::answer;
 use flow_call_texts::{draw_file, draw_file_with, explain_file, lint_file};
 use std::alloc::AllocError;
@@ -73,6 +74,17 @@ fn lint<R: Files<File = File> + AllocGlobal + Print + Eprint>(
     lint_file(rt, words)
 }
 
+/// Writes the page of a case, or of a folder of cases, and gives the status.
+fn page<R: Files<File = File> + Clock + AllocGlobal + Print + Eprint + Clone + Drop>(
+    rt: &R,
+    words: &ArgMatches<'_>,
+) -> u8 {
+    if is_office(rt, words.get_str("case").unwrap_or("")) {
+        return write_office(rt, words);
+    }
+    write_page(rt, words)
+}
+
 /// Does what the words of a subcommand ask for, and gives the status.
 fn called<
     R: Files<File = File>
@@ -94,9 +106,11 @@ fn called<
         "lint" => lint(rt, words),
         "alone" | "staffed" => answer(rt, name, words),
         "log" => log_file(rt, words),
+        "list" => list(rt, words),
         "export" => export(rt, words),
         "new" => make(rt, words),
-        "page" => write_page(rt, words),
+        "move" => move_case(rt, words),
+        "page" => page(rt, words),
         "verify" => verify(rt, words),
         "open" => dialogue(rt, words, rt.reader(), at_terminal),
         name if is_case_command(name) => ask_case(rt, name, words),
