@@ -1,0 +1,37 @@
+/// How many lines are said.
+pub(crate) const COUNT: usize = 31;
+
+/// What users say to the case: who, and which line. Each line makes one entry or none.
+pub(crate) const LINES: [(&str, &str); COUNT] = [
+    ("eve", "take enter"),
+    ("bob", "take enter"),
+    ("ann", "done enter"),
+    ("bob", "done enter"),
+    ("ann", "take match"),
+    ("bob", "take match"),
+    ("bob", "done match"),
+    ("bob", "take approve_first"),
+    ("cid", "take approve_first"),
+    ("cid", "take approve_second"),
+    ("dora", "take approve_second"),
+    ("dora", "done approve_second"),
+    ("cid", "done approve_first"),
+    ("eve", "do ?open(order_7)"),
+    ("eve", "take pay_transfer"),
+    ("eve", "fail pay_transfer"),
+    ("eve", "take pay_check"),
+    ("eve", "done pay_check"),
+    ("eve", "rewind"),
+    ("cid", "rewind"),
+    ("dora", "take turn_down"),
+    ("bob", "take letter"),
+    ("dora", "done turn_down"),
+    ("bob", "take letter"),
+    ("bob", "done letter"),
+    ("bob", "take archive"),
+    ("ann", "done archive"),
+    ("ann", "todo"),
+    ("bob", "done archive"),
+    ("ann", "facts"),
+    ("ann", "commit"),
+];
