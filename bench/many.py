@@ -1,7 +1,7 @@
 #!/usr/bin/env python3
 """Many cases: their export, read by the programs of others, and what an export takes.
 
-Usage: bench/many.py [PART ..] [--cases N] [--programs FOLDER]     PART: exported, forms, damaged, costs; without one all
+Usage: bench/many.py [PART ..] [--cases N] [--programs FOLDER]     PART: exported, forms, threads, damaged, costs; without one all
 
 exported   N random cases (1,000) of the examples, with failures and steps back. The export is read by Python's csv and json. Of each case
            the rows that count are the journal that `report` prints, and `flow trace` accepts them. There is a row for each entry but steps
@@ -9,8 +9,9 @@ exported   N random cases (1,000) of the examples, with failures and steps back.
            were told, with commas, quotes and line feeds in them. `flowdesk log` finds no case that deviates.
 forms      XES is read by Python's parser of XML (and by xmllint, where it is there), and keeps the rules of its schema. SQL is loaded into
            sqlite3 and into a PostgreSQL of its own. Each gives the rows of the lines of JSON, and so each case's journal
+threads    1, 2, 4 and 8 threads give the same bytes in each form
 damaged    a case whose trail is cut, and one whose text is gone: they are told, and the rows of all others are there
-costs      how long the export of 1,000 cases of the order desk with 30 entries takes, in entries a second
+costs      how long the export of 1,000 cases of the order desk with 30 entries takes by 1 and by 4 threads, in entries a second
 
 The programs are FOLDER/NAME, or crates/NAME/out/NAME. The script ends with 1 where something came out otherwise, and prints that.
 """
@@ -280,6 +281,18 @@ class Base:
         return int(bool(fault)) + int(not refused)
 
 
+def threads(many):
+    """The same bytes by any number of threads."""
+    sizes = []
+    for form in ("csv", "jsonl", "xes", "sql"):
+        texts = [many.exported_bytes(form, "--jobs", str(jobs)) for jobs in (1, 2, 4, 8)]
+        if len(set(texts)) != 1:
+            many.wrong("threads", form)
+        sizes.append((f"bytes of {form}, the same by 1, 2, 4 and 8 threads", len(many.texts), len(texts[0])))
+    print("threads:", *(f"{what}: {size}" for what, _, size in sizes))
+    return sizes
+
+
 def desks(many, folder, count):
     """So many copies of cases of the order desk with 30 entries or more, and how many entries they have in all."""
     chance, made, folder = random.Random(30), [], pathlib.Path(folder)
@@ -306,13 +319,14 @@ def costs(many):
     with tempfile.TemporaryDirectory() as folder:
         entries = desks(many, folder, count)
         for form in ("csv", "jsonl", "xes", "sql"):
-            least = 1e9
-            for _ in range(5):
-                begun = time.monotonic()
-                many.exported_bytes(form, folder=folder)
-                least = min(least, time.monotonic() - begun)
-            print(f"{form}: {count} cases, {entries} entries in {least:.2f} s, {entries / least:.0f} entries a second", flush=True)
-            rows.append((f"export as {form}, entries a second", entries, entries / least))
+            for jobs in ("1", "4"):
+                least = 1e9
+                for _ in range(5):
+                    begun = time.monotonic()
+                    many.exported_bytes(form, "--jobs", jobs, folder=folder)
+                    least = min(least, time.monotonic() - begun)
+                print(f"{form} by {jobs}: {count} cases, {entries} entries in {least:.2f} s, {entries / least:.0f} entries a second", flush=True)
+                rows.append((f"export as {form} by {jobs} threads, entries a second", entries, entries / least))
     return rows
 
 
@@ -328,7 +342,7 @@ def main():
         many, chance = Many(desk, flow, folder), random.Random(20261201)
         for number in range(given.cases):
             walk(many, f"c{number:05}", chance.choice(TEXTS), chance)
-        parts = {"exported": exported, "forms": forms, "damaged": damaged, "costs": costs}
+        parts = {"exported": exported, "forms": forms, "threads": threads, "damaged": damaged, "costs": costs}
         for part in given.parts or parts:
             rows += parts[part](many)
     if not given.parts:

@@ -84,16 +84,21 @@ _flowdesk() {
             [[ ${COMP_WORDS[1]} == export ]] && forms="csv jsonl xes sql"
             mapfile -t COMPREPLY < <(compgen -W "$forms" -- "$word") && return
             ;;
+        --state) mapfile -t COMPREPLY < <(compgen -W "open waiting finished stuck stuck_by_duties committed" -- "$word") && return ;;
         --rows) mapfile -t COMPREPLY < <(compgen -W "all journal tasks" -- "$word") && return ;;
         --journal | --log | --workflow | --policy | --map | --journals | --session | --query) _flow_files "$word" && return ;;
     esac
     if [[ $COMP_CWORD -eq 1 ]]; then
         local cases="new take done fail do rewind commit tidy todo why history undone facts report verify open"
-        mapfile -t COMPREPLY < <(compgen -W "draw explain lint alone staffed log page export $cases --help --version" -- "$word")
+        mapfile -t COMPREPLY < <(compgen -W "draw explain lint alone staffed log page list export move $cases --help --version" -- "$word")
+    elif [[ $word == -* && ${COMP_WORDS[1]} == list ]]; then
+        mapfile -t COMPREPLY < <(compgen -W "$(_flow_unused --for --state --older --workflow --jobs --json)" -- "$word")
     elif [[ $word == -* && ${COMP_WORDS[1]} == export ]]; then
-        mapfile -t COMPREPLY < <(compgen -W "$(_flow_unused --form --rows)" -- "$word")
+        mapfile -t COMPREPLY < <(compgen -W "$(_flow_unused --form --rows --jobs)" -- "$word")
     elif [[ $word == -* && ${COMP_WORDS[1]} == page ]]; then
         mapfile -t COMPREPLY < <(compgen -W "$(_flow_unused --at --wait)" -- "$word")
+    elif [[ $word == -* && ${COMP_WORDS[1]} == move ]]; then
+        mapfile -t COMPREPLY < <(compgen -W "$(_flow_unused --workflow --policy --as --at --wait --json) --rename" -- "$word")
     elif [[ $word == -* && ${COMP_WORDS[1]} == new ]]; then
         mapfile -t COMPREPLY < <(compgen -W "$(_flow_unused --workflow --policy --tidy)" -- "$word")
     elif [[ $word == -* && ${COMP_WORDS[1]} != draw && ${COMP_WORDS[1]} != explain && ${COMP_WORDS[1]} != lint && ${COMP_WORDS[1]} != log && ${COMP_WORDS[1]} != alone && ${COMP_WORDS[1]} != staffed ]]; then
