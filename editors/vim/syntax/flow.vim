@@ -29,6 +29,8 @@ syntax keyword flowCommand contained take do done fail rewind commit next enable
 syntax keyword flowCommand contained as
 " statements of a policy, which are names elsewhere
 syntax keyword flowPolicy contained role allow separate bind
+" and those of a case's policy alone, which bench/words.py does not compare
+syntax match flowPolicy contained /\<\(final\|back\|close\)\>/
 syntax match flowDivider contained /^%%\r\?$/
 syntax region flowSecond start=/^%%\r\?$/ end=/\%$/
       \ contains=flowDivider,flowCommand,flowPolicy,flowStep,flowRule,flowJoin,flowQuery,flowNumber,flowOperator,flowRelation,flowForeign
