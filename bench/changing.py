@@ -2,7 +2,10 @@
 """Writes docs/CHANGING.md: for each kind of change the files that name the nearest thing that exists, by layer.
 
 Usage: bench/changing.py [--write]     tells whether the page is what the tree says; with `--write` writes the page
-       bench/changing.py WORD [CRATE ..]     the files whose code names a word, a pattern of `re`; of all crates, or of these
+       bench/changing.py WORD [CRATE ..]     the files that name a word; code of all crates, or of these alone
+
+WORD is a word, an option or a pattern of `re`. `lone_iso` finds `LoneIso`, `LONE_ISO`, `lone-iso` and longer names with it, too, and
+`--older` the option in documents and `older` in code. The last lines have documents, man pages, completions, scripts and rows.
 
 The kinds of change stand in bench/changes.py: the nearest thing, what names it, in which order the work is done and why. The files are found
 in the tree. Ends with 1 where the page is not what the tree says, or where no file names a thing.
@@ -13,16 +16,23 @@ import re
 import sys
 import textwrap
 
-from changes import BEGIN, CHANGES, END, INTRODUCTION, Thing
+from changes import BEGIN, CHANGES, END, INTRODUCTION, SEEN, Thing
 
 TOP = pathlib.Path(__file__).resolve().parent.parent
 PAGE = TOP / "docs/CHANGING.md"
 WIDTH = 100
 PARTS = ["src", "specs", "proofs"]
 COMMENT = {".rt": r"//.*", ".antt": r"(?m)(?:^|(?<=\s))--(?:\s.*)?$"}
-# Where a user's word may stand.
-PROSE = ["README.md", "docs/**/*.md", "examples/README.md", "man/*", "completions/*", "editors/**/*", "bench/*.py",
-         "crates/*/README.md", "crates/*/data/*.rows"]
+# Where a user's word may stand, by kinds.
+PROSE = {
+    "documents": ["README.md", "CONTRIBUTING.md", "docs/**/*.md"],
+    "man pages, completions, editors": ["man/*", "completions/*", "editors/**/*"],
+    "libraries and examples": ["include/*", "bindings/**/*.md", "bindings/**/*.py", "bindings/**/*.rs", "examples/README.md",
+                               "examples/c/*", "examples/dask/*", "examples/postgres/*", "examples/tools/*"],
+    "scripts": ["bench/*.py", "bench/*.c", "bench/*.sh", "install", "prove", "crates.txt"],
+    "READMEs of crates": ["crates/*/README.md"],
+    "rows": ["crates/*/data/*.rows"],
+}
 # What says why it is so, or what was measured, and what a script writes.
 NO_PROSE = r"docs/(CHANGING|DECISIONS|BENCHES|PROVING)\.md|bench/chang(es|ing)\.py|.*/(desk_\w+|cookbook|surprises)\.rows"
 
@@ -52,10 +62,30 @@ def code():
 
 @functools.cache
 def prose():
-    """The text of each document, row file and script by its path."""
-    paths = sorted({path for pattern in PROSE for path in TOP.glob(pattern) if path.is_file()})
-    texts = {str(path.relative_to(TOP)): path.read_text(errors="replace") for path in paths}
-    return {name: text for name, text in texts.items() if not re.fullmatch(NO_PROSE, name)}
+    """Of each kind of document, row file and script the texts by their paths."""
+    found = {}
+    for kind, patterns in PROSE.items():
+        paths = sorted({path for pattern in patterns for path in TOP.glob(pattern) if path.is_file()})
+        texts = {str(path.relative_to(TOP)): path.read_text(errors="replace") for path in paths}
+        found[kind] = {name: text for name, text in texts.items() if not re.fullmatch(NO_PROSE, name)}
+    return found
+
+
+def forms_of(word):
+    """The parts of a plain word, and whether it is an option; no parts of what is a pattern."""
+    plain = re.fullmatch(r"(--)?([A-Za-z][A-Za-z0-9]*(?:[_-][A-Za-z0-9]+)*)", word)
+    return ([], False) if not plain else (re.findall(r"[A-Z]+(?![a-z])|[A-Z]?[a-z0-9]+", plain[2]), bool(plain[1]))
+
+
+def thing_of(word, only):
+    """What a word names: in code the word in all forms of names, in prose that word or that option."""
+    parts, is_option = forms_of(word)
+    if not parts:
+        return Thing(word, word, word, only=only)
+    low = "[_-]".join(part.lower() for part in parts)
+    high = "".join(part.lower().capitalize() for part in parts)
+    names = rf"(?<![A-Za-z])({low}|{low.upper()})(?![A-Za-z])|(?<![A-Z]){high}(?![a-z])"
+    return Thing(word, names, rf"(--|\\-\\-){low}\b" if is_option else names, only=only)
 
 
 def is_in(crate, thing):
@@ -63,10 +93,16 @@ def is_in(crate, thing):
     return crate in thing.only if thing.only else crate not in thing.but
 
 
+def has(text, thing):
+    """Whether a text of code names the thing, with what is to stand beside it and without what is not."""
+    return (re.search(thing.names, text) and re.search(thing.beside, text)
+            and not (thing.without and re.search(thing.without, text)))
+
+
 @functools.cache
 def named(thing):
     """The files whose code names the thing, by their path below crates/."""
-    return [path for path, text in code().items() if is_in(path.partition("/")[0], thing) and re.search(thing.names, text)]
+    return [path for path, text in code().items() if is_in(path.partition("/")[0], thing) and has(text, thing)]
 
 
 def shown(path):
@@ -106,13 +142,38 @@ def files_of(thing):
 
 def prose_of(thing):
     """The lines with the documents, rows and scripts in which users' words for the thing stand."""
-    found = [name for name, text in prose().items() if thing.said and re.search(thing.said, text, re.M)]
-    crates = [name.split("/")[1] for name in found if name.startswith("crates/") and name.endswith(".md")]
-    rows = [name.split("/")[-1] for name in found if name.endswith(".rows")]
-    rest = [name for name in found if not name.startswith("crates/")]
-    kinds = [("", rest), ("READMEs of ", crates), ("rows of ", rows)]
-    texts = [kind + ", ".join(f"`{name}`" for name in names) for kind, names in kinds if names]
-    return wrapped(f"- *documents, scripts and rows*: {'; '.join(texts)}", "", "  ") if texts else []
+    lines = []
+    for kind, texts in prose().items():
+        found = [name for name, text in texts.items() if thing.said and re.search(thing.said, text, re.M)]
+        if kind == "READMEs of crates":
+            found = [name.split("/")[1] for name in found]
+        if kind == "rows":
+            found = [name.split("/")[-1].removesuffix(".rows") for name in found]
+        if found:
+            lines += wrapped(f"- *{kind}*: {', '.join(f'`{name}`' for name in found)}", "", "  ")
+    return lines
+
+
+def anchor(title):
+    """Where a link to a section leads."""
+    return "#" + re.sub(r"[^\w -]", "", title.lower()).replace(" ", "-")
+
+
+def contents():
+    """The lines that lead to each section, by what a user sees."""
+    lines = []
+    for seen in SEEN:
+        lines += [f"- **{seen}**"]
+        for change in CHANGES:
+            if change.seen == seen:
+                lines += wrapped(f"- [{change.title}]({anchor(change.title)}): {change.such}", "  ", "    ")
+    return lines
+
+
+def counted(thing):
+    """What a list has: the thing, and the patterns that found the files."""
+    patterns = f"`{thing.names}`" + (f", beside `{thing.beside}`" if thing.beside else "") + (f", without `{thing.without}`" if thing.without else "")
+    return f"**{thing.what}**: {len(named(thing))} file{'s' * (len(named(thing)) != 1)} ({patterns})."
 
 
 def section(change):
@@ -121,7 +182,7 @@ def section(change):
     for step in change.order:
         lines += wrapped(step, "- ", "  ")
     for thing in change.things:
-        lines += ["", *wrapped(f"**{thing.what}**: {len(named(thing))} files name it (`{thing.names}`).")]
+        lines += ["", *wrapped(counted(thing))]
         lines += ["", *files_of(thing), *prose_of(thing)]
     return lines
 
@@ -132,6 +193,7 @@ def page():
     lines = ["# Changing the programs", ""]
     for text in INTRODUCTION:
         lines += [*wrapped(text), ""]
+    lines += ["## Contents", "", *contents(), ""]
     for title, steps in (("Before each change", BEGIN), ("After each change", END)):
         lines += [f"## {title}", "", *(line for step in steps for line in wrapped(step, "- ", "  ")), ""]
     for change in CHANGES:
@@ -147,8 +209,12 @@ def faults():
     found += [f"bench/changes.py: {change.title}: there is no crate {crate}"
               for change in CHANGES for thing in change.things for crate in sorted((thing.only | thing.but) - known)]
     found += [f"bench/changes.py: {change.title}: there is no file {name}"
-              for change in CHANGES for step in change.order for name in re.findall(r"`(crates/[^`*]+|flow_\w+/[^`*{]+)`", step)
+              for change in CHANGES for step in change.order for name in re.findall(r"`(crates/[^`*{]+|flow_\w+/[^`*{]+)`", step)
               if not (TOP / "crates" / name.removeprefix("crates/")).exists()]
+    found += [f"bench/changes.py: {change.title}: there is no file {name}"
+              for change in CHANGES for step in change.order
+              for name in re.findall(r"`((?:bench|bindings|docs|examples|include|man|completions|editors)/[^`*{ ]+)`", step) if not (TOP / name).exists()]
+    found += [f"bench/changes.py: {change.title}: the contents do not have it" for change in CHANGES if change.seen not in SEEN]
     if not PAGE.exists() or PAGE.read_text() != page():
         found.append("docs/CHANGING.md: it is not what the tree says: bench/changing.py --write writes it")
     return found
@@ -156,7 +222,8 @@ def faults():
 
 def main(words):
     if words and words != ["--write"]:
-        print("\n".join(files_of(Thing(words[0], words[0], only=set(words[1:])))))
+        thing = thing_of(words[0], set(words[1:]))
+        print("\n".join([*files_of(thing), *prose_of(thing)]))
         return 0
     if words:
         PAGE.write_text(page())
