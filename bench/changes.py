@@ -174,7 +174,7 @@ CHANGES = [
         "`flow_case_why/src/wanted.rt` tells how each statement is written, in two texts, and `flow_case_why/src/policy.rt` the first thing "
         "that is wrong.",
         "Both editors' files have its word by hand: `editors/vim/syntax/flow.vim` and `editors/vscode/syntaxes/flow.tmLanguage.json`. "
-        "`bench/words.py` does not compare it.",
+        "`bench/words.py` compares them.",
         "Above `flow_case`, only `flow_case_why` has a case for each statement. `flow_policy_lint` looks at what a question needs of them.",
     ], [Thing("a statement about events, and one about roles", r"\bKind\b|Kind::|\bFinal\b|\b[Ff]inals?\b|\bBack\b|\bkind_of\b|\bgivens?\b",
               r"`final\b|^final [a-z]|\bfinal [a-z_]+(, [a-z_]+)*;|\bfinal\W+back\b|\"final\"",

@@ -5,8 +5,8 @@ and the prose of the pages: lines, sentences and words (bench/prose.py).
 Usage: bench/words.py
 
 In the code: the modes and options of crates/flow_words with their bounds, the reserved words of crates/flow_reader, the commands of
-sessions (crates/flow_record, and of users beside it) and the statements of policies (crates/flow_policy). The script ends with 1
-where a file has a word that the code has not, lacks one, or has another bound, and prints it.
+sessions (crates/flow_record, and of users beside it) and the statements of policies (crates/flow_policy, and of cases crates/flow_case).
+The script ends with 1 where a file has a word that the code has not, lacks one, or has another bound, and prints it.
 """
 import json
 import pathlib
@@ -68,7 +68,8 @@ def commands_of_code():
 
 
 def statements_of_code():
-    return found(r'== "(\w+)"\.as_bytes\(\)', sources("crates/flow_policy/src/*.rt"))
+    code = sources("crates/flow_policy/src/*.rt") + sources("crates/flow_case/src/kind.rt")
+    return found(r'== "(\w+)"\.as_bytes\(\)', code)
 
 
 # What each file has: of each kind of words a set, and of options their bounds where it tells them.

@@ -27,10 +27,8 @@ syntax match flowForeign /[^\x00-\x7f]/ containedin=flowComment
 " commands of a session
 syntax keyword flowCommand contained take do done fail rewind commit next enabled journal facts
 syntax keyword flowCommand contained as
-" statements of a policy, which are names elsewhere
-syntax keyword flowPolicy contained role allow separate bind
-" and those of a case's policy alone, which bench/words.py does not compare
-syntax match flowPolicy contained /\<\(final\|back\|close\)\>/
+" statements of a policy, which are names elsewhere; the last three are those of a case's policy
+syntax keyword flowPolicy contained role allow separate bind final back close
 syntax match flowDivider contained /^%%\r\?$/
 syntax region flowSecond start=/^%%\r\?$/ end=/\%$/
       \ contains=flowDivider,flowCommand,flowPolicy,flowStep,flowRule,flowJoin,flowQuery,flowNumber,flowOperator,flowRelation,flowForeign
